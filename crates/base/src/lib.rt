@@ -1,0 +1,51 @@
+// The numbers that are kept apart, and the nine ways to say no.
+ghost use mathlib.Core.Path.{_≡_};
+ghost use Rattle.base.specs.Numbers.{numberOf};
+
+// The number of a document.
+pub struct DocNo(pub u32);
+
+// The number of a frame.
+pub struct FrameNo(pub u32);
+
+// The place of a row in the record, counted from 0.
+pub struct RowPlace(pub usize);
+
+// Why a call is refused, by the paper's table "Nine ways to say no".
+pub enum Refusal {
+    // record under 7 words
+    ShortRecord,
+    // record unsound
+    Unsound,
+    // saved bytes are not such bytes
+    NotSaved,
+    // document not in the record
+    Absent,
+    // document there, not visible
+    Hidden,
+    // position + delta below 0 or above steps; a list shorter than the magnitude of delta
+    Beyond,
+    // no row left
+    Full,
+    // the next document number, or the next frame number, is 4294967295
+    UsedUp,
+    // a lent answer buffer is too short
+    ShortBuffer,
+}
+
+// The paper's number of a refusal.
+pub fn refusal_number(refusal: Refusal) -> u32
+    ensures { λ r. ⌜ r ≡ numberOf refusal ⌝ }
+{
+    match refusal {
+        Refusal::ShortRecord => 1,
+        Refusal::Unsound => 2,
+        Refusal::NotSaved => 3,
+        Refusal::Absent => 4,
+        Refusal::Hidden => 5,
+        Refusal::Beyond => 6,
+        Refusal::Full => 7,
+        Refusal::UsedUp => 8,
+        Refusal::ShortBuffer => 9,
+    }
+}

@@ -1,0 +1,12 @@
+pub mod Tests
+pub mod Frames
+pub mod Flags
+pub mod Central
+pub mod Append
+pub mod Kept
+pub mod Tree
+pub mod Climb
+pub mod Removal
+pub mod Navigate
+pub mod Travel
+pub mod Reflect

@@ -1,0 +1,155 @@
+-- The calls: what is lent to each, when each is refused, and what it answers and leaves otherwise.
+use Prim.Native.Nat.{ℕ, suc, _/_}
+use mathlib.Core.Bool.{Bool, true, false, not, _||_, cond}
+use mathlib.Core.List.{List, [], _∷_}
+use lib.Dec.{eqb, leb, ltb}
+use lib.IntN.{ℤ, pos, negsuc, _+ℤ_, natAbs}
+use lib.ListN.{length}
+use lib.Seq.{sets}
+use Rattle.rules.specs.Rows.{Row, Table, none, inRecord, flag}
+use Rattle.rules.specs.Steps.{position, steps, visible}
+use Rattle.rules.specs.Moves.{freshTable, opened, cleared, navigated, traversed, changes}
+use Rattle.rules.specs.Words.{capacity, tableOf, written}
+use Rattle.rules.specs.Sound.{sound?}
+use Rattle.rules.specs.Asks.{takenList, upcomingList, tooFar, stretched, outlineOf}
+use Rattle.rules.specs.Saved.{saved, loaded, fromSave?}
+
+-- A call with all that it is handed: `words` is the record, `room` a lent answer buffer, `parent`, `from` and `d` documents.
+pub data Call : Type 0 where
+  Fresh : (words : List ℕ) → Call
+  Open : (words : List ℕ) (parent : ℕ) → Call
+  Navigate : (words : List ℕ) (from : ℕ) → Call
+  Traverse : (words : List ℕ) (δ : ℤ) (room : List ℕ) → Call
+  Position : (words : List ℕ) → Call
+  Visible : (words : List ℕ) (d : ℕ) → Call
+  Lists : (words : List ℕ) (takens upcomings : List ℕ) → Call
+  Stretch : (takens upcomings : List ℕ) (δ : ℤ) → Call
+  StretchCount : (takens upcomings : List ℕ) (δ : ℤ) → Call
+  Outline : (words : List ℕ) (room : List ℕ) → Call
+  Save : (words : List ℕ) (room : List ℕ) → Call
+  Load : (words : List ℕ) (bytes : List ℕ) → Call
+
+-- An answer is a refusal's number alone, or the values that document 01 names, in its order; yes is 1 and no is 0.
+pub data Answer : Type 0 where
+  refuses : ℕ → Answer
+  gives : List ℕ → Answer
+
+-- What a call answers, and what the runs hold then that were lent to it to write in.
+pub record Outcome : Type 0 where
+  pub answer : Answer
+  pub lent : List (List ℕ)
+
+-- The runs that are lent to write in.
+abbrev pub lentTo : Call → List (List ℕ)
+lentTo (Call.Fresh words) = words ∷ []
+lentTo (Call.Open words parent) = words ∷ []
+lentTo (Call.Navigate words from) = words ∷ []
+lentTo (Call.Traverse words δ room) = words ∷ room ∷ []
+lentTo (Call.Position words) = []
+lentTo (Call.Visible words d) = []
+lentTo (Call.Lists words takens upcomings) = takens ∷ upcomings ∷ []
+lentTo (Call.Stretch takens upcomings δ) = []
+lentTo (Call.StretchCount takens upcomings δ) = []
+lentTo (Call.Outline words room) = room ∷ []
+lentTo (Call.Save words room) = room ∷ []
+lentTo (Call.Load words bytes) = words ∷ []
+
+-- THE TABLE "Nine ways to say no".
+
+-- "record under 7 words"; "record unsound"
+abbrev pub short : List ℕ → Bool
+short words = ltb (length words) 7
+
+abbrev pub unsound : List ℕ → Bool
+unsound words = not (sound? words)
+
+-- "document not in the record"; "document there, not visible"
+abbrev pub absent : List ℕ → ℕ → Bool
+absent words d = not (inRecord (tableOf words .rows) d)
+
+abbrev pub hidden : List ℕ → ℕ → Bool
+hidden words d = not (visible (tableOf words .rows) d)
+
+-- "position + δ below 0 or above steps"
+abbrev pub outside : ℕ → ℤ → Bool
+outside n (pos q) = ltb n q
+outside n (negsuc q) = true
+
+abbrev pub beyond : List ℕ → ℤ → Bool
+beyond words δ = outside (steps (tableOf words .rows)) (pos (position (tableOf words .rows)) +ℤ δ)
+
+-- "no row left": for so many rows
+abbrev pub full : List ℕ → List Row → Bool
+full words rows = leb (capacity words) (length rows)
+
+-- "next document number, or for Open the next frame number, is 4294967295"
+abbrev pub usedUp : ℕ → Bool
+usedUp next = eqb next none
+
+-- "a lent answer buffer is too short": for these values
+abbrev pub tooShort : List ℕ → List ℕ → Bool
+tooShort room values = ltb (length room) (length values)
+
+-- A number and when it is given.
+pub record Rung : Type 0 where
+  pub number : ℕ
+  pub holds : Bool
+
+infix 70 _when_
+abbrev pub _when_ : ℕ → Bool → Rung
+k when b = record { number = k; holds = b }
+
+unfoldable pub refusals : Call → List Rung
+refusals (Call.Fresh words) = 1 when short words ∷ []
+refusals (Call.Open words parent) =
+    1 when short words ∷ 2 when unsound words ∷ 4 when absent words parent ∷ 5 when hidden words parent
+    ∷ 7 when full words (tableOf words .rows) ∷ 8 when (usedUp (tableOf words .nextDoc) || usedUp (tableOf words .nextFrame)) ∷ []
+refusals (Call.Navigate words from) =
+    1 when short words ∷ 2 when unsound words ∷ 4 when absent words from ∷ 5 when hidden words from
+    ∷ 7 when full words (cleared (tableOf words .rows)) ∷ 8 when usedUp (tableOf words .nextDoc) ∷ []
+refusals (Call.Traverse words δ room) =
+    let cramped = tooShort room (changes (tableOf words) δ) in
+    1 when short words ∷ 2 when unsound words ∷ 6 when beyond words δ ∷ 9 when cramped ∷ []
+refusals (Call.Position words) = 1 when short words ∷ 2 when unsound words ∷ []
+refusals (Call.Visible words d) = 1 when short words ∷ 2 when unsound words ∷ 4 when absent words d ∷ []
+refusals (Call.Lists words takens upcomings) =
+    1 when short words ∷ 2 when unsound words
+    ∷ 9 when (tooShort takens (takenList (tableOf words .rows)) || tooShort upcomings (upcomingList (tableOf words .rows))) ∷ []
+refusals (Call.Stretch takens upcomings δ) = []
+refusals (Call.StretchCount takens upcomings δ) = 6 when tooFar takens upcomings δ ∷ []
+refusals (Call.Outline words room) = 1 when short words ∷ 2 when unsound words ∷ 9 when tooShort room (outlineOf (tableOf words)) ∷ []
+refusals (Call.Save words room) = 1 when short words ∷ 2 when unsound words ∷ 9 when tooShort room (saved (tableOf words)) ∷ []
+refusals (Call.Load words bytes) = 1 when short words ∷ 3 when not (fromSave? bytes) ∷ 7 when ltb (capacity words) (length (loaded bytes .rows)) ∷ []
+
+-- What a call answers and leaves that is not refused. A run keeps what stands past the values written into it.
+infix 20 _leaving_
+abbrev pub _leaving_ : List ℕ → List (List ℕ) → Outcome
+values leaving runs = record { answer = Answer.gives values; lent = runs }
+
+unfoldable pub accepted : Call → Outcome
+accepted (Call.Fresh words) = [] leaving written words freshTable ∷ []
+accepted (Call.Open words parent) =
+    tableOf words .nextDoc ∷ tableOf words .nextFrame ∷ [] leaving written words (opened (tableOf words) parent) ∷ []
+accepted (Call.Navigate words from) = tableOf words .nextDoc ∷ [] leaving written words (navigated (tableOf words) from) ∷ []
+accepted (Call.Traverse words δ room) =
+    length (changes (tableOf words) δ) / 4 ∷ [] leaving written words (traversed (tableOf words) δ) ∷ sets room 0 (changes (tableOf words) δ) ∷ []
+accepted (Call.Position words) = position (tableOf words .rows) ∷ steps (tableOf words .rows) ∷ steps (tableOf words .rows) ∷ [] leaving []
+accepted (Call.Visible words d) = flag (visible (tableOf words .rows) d) ∷ [] leaving []
+accepted (Call.Lists words takens upcomings) =
+    length (takenList (tableOf words .rows)) ∷ length (upcomingList (tableOf words .rows)) ∷ []
+    leaving sets takens 0 (takenList (tableOf words .rows)) ∷ sets upcomings 0 (upcomingList (tableOf words .rows)) ∷ []
+accepted (Call.Stretch takens upcomings δ) = stretched takens upcomings δ leaving []
+accepted (Call.StretchCount takens upcomings δ) = natAbs δ ∷ [] leaving []
+accepted (Call.Outline words room) = length (outlineOf (tableOf words)) / 2 ∷ [] leaving sets room 0 (outlineOf (tableOf words)) ∷ []
+accepted (Call.Save words room) = length (saved (tableOf words)) ∷ [] leaving sets room 0 (saved (tableOf words)) ∷ []
+accepted (Call.Load words bytes) = length (loaded bytes .rows) ∷ [] leaving written words (loaded bytes) ∷ []
+
+-- "Where several apply, the smallest number is given. A refusal returns its number alone [..] and changes no lent word or byte."
+unfoldable pub ladder : List Rung → List (List ℕ) → Outcome → Outcome
+ladder [] lent done = done
+ladder (r ∷ rungs) lent done =
+    let rest = ladder rungs lent done in
+    cond (r .holds) (record { answer = Answer.refuses (r .number); lent = lent }) rest
+
+unfoldable pub outcome : Call → Outcome
+outcome c = ladder (refusals c) (lentTo c) (accepted c)

@@ -1,0 +1,11 @@
+-- What is right, by document 01: read in this order.
+pub mod Below
+pub mod Rows
+pub mod Steps
+pub mod Moves
+pub mod Words
+pub mod Sound
+pub mod Asks
+pub mod Saved
+pub mod Calls
+pub mod Runs
