@@ -27,7 +27,7 @@ module _ (n : ℕ) (fr g : ℕ → ℕ) (agree : (k : ℕ) → k < n → fr k �
   unfolding due
   due-agree p i a = rw (step-agree i a, count-same (step fr) (step g) i (λ k b. step-agree k (omega arith)))
 
-  -- one place more, and no more steps wanted than there were
+  -- One place more, at a position that was there before.
   module _ (p : ℕ) (few : p ≤ count (step fr) n) where
     new-step : So (step g n) → So (due g p n) → ⊥
     new-step s d = omega (arith, due-out g p n d s, count-same (step fr) (step g) n (λ k b. step-agree k b))

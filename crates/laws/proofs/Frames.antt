@@ -11,7 +11,7 @@ use Rattle.rules.specs.Steps.{same, step, reach}
 use Rattle.laws.proofs.Tests.{test, clash, off, same-tests, by-order, by-lt, some-in, some-out, count-in, count-le, count-mono, count-flat, count-same, count-first}
 use Rattle.laws.proofs.Tests.{nth, one-in, greatest, least, earliest-is, latest-is}
 
--- Marked, below n, and no later place of its frame is.
+-- Of n places, i passes q and no later place of its frame does.
 unfoldable pub last : ℕ → (ℕ → ℕ) → (ℕ → Bool) → ℕ → Bool
 last n fr q i = ltb i n && q i && not (someBelow n (λ k. same fr i k && ltb i k && q k))
 
@@ -19,7 +19,7 @@ last n fr q i = ltb i n && q i && not (someBelow n (λ k. same fr i k && ltb i k
 unfoldable pub due : (ℕ → ℕ) → ℕ → ℕ → Bool
 due fr p i = not (step fr i) || ltb (count (step fr) i) p
 
--- How many steps are reached; each frame has exactly one shows; each step that is not reached is later than each that is marked.
+-- Position, S6 and S7 over plain functions, s telling who is shown.
 abbrev pub positionOf : ℕ → (ℕ → ℕ) → (ℕ → Bool) → ℕ
 positionOf n fr s = count (λ k. step fr k && reach n fr s k) n
 
@@ -38,7 +38,7 @@ module _ (fr : ℕ → ℕ) where
   unfolding step
   step-out i s = let r = some-out (same fr i) i s in (r .0, r .1, eqb-true _ _ (r .2))
 
-  -- the first place of i's frame
+  -- The first place of i's frame.
   pub first : (i : ℕ) → (j : ℕ) × (j ≤ i) × (fr j ≡ fr i) × (step fr j ≡ false)
   first i =
       let r = least (same fr i) i (eq-eqb (fr i) (fr i) refl) in
@@ -62,7 +62,7 @@ module _ (fr : ℕ → ℕ) where
     unfolding due
     due-step = test (step fr i) (λ t. rw t refl) (λ f. rw f refl)
 
-  -- what is due goes back to the first of its frame
+  -- With a place every earlier one of its frame is due.
   pub due-down : (p : ℕ) {i k : ℕ} → i ≤ k → fr k ≡ fr i → So (due fr p k) → So (due fr p i)
   due-down p {i} {k} a e d =
       by-order i k (λ l. due-in p i (omega (arith, due-out p k d (step-in l (sym e)), count-mono (step fr) k a))) (λ q. rw q d) (λ l. absurd (omega arith))
@@ -103,7 +103,7 @@ module _ (n : ℕ) (fr : ℕ → ℕ) where
     unfolding last
     last-below i l = rw (le-ltb _ _ l) refl
 
-    -- at most one shows a frame: it is the last place that reaches it
+    -- Where a frame shows at most one place, that is the last one reached.
     pub last-reach : ((i k : ℕ) → i < n → k < n → fr k ≡ fr i → So (s i) → So (s k) → i ≡ k) → (i : ℕ) → i < n → last n fr (reach n fr s) i ≡ s i
     last-reach only i a =
         same-tests
@@ -116,7 +116,7 @@ module _ (n : ℕ) (fr : ℕ → ℕ) where
         let q = only i (m .0) a (m .2) (m .3 ∙ e) t (m .4) in
         omega arith))
 
-    -- a marking that goes back to the first of each frame: its last places give it back
+    -- A test that goes back to the first of each frame is what its last places reach.
     pub reach-last : ((i k : ℕ) → i ≤ k → k < n → fr k ≡ fr i → So (s k) → So (s i)) → (i : ℕ) → i < n → reach n fr (last n fr s) i ≡ s i
     reach-last down i a =
         same-tests
@@ -127,21 +127,21 @@ module _ (n : ℕ) (fr : ℕ → ℕ) where
         let e = eqb-true _ _ (u .0) in
         reach-in (last n fr s) (g .1) (g .2) e (last-in s (g .2) (u .1) (λ k b c f v. g .4 k b c (simp and-eq-true-iff (eq-eqb (fr k) (fr i) (f ∙ e), v)))))
 
-  -- only the frame's own places count
+  -- Only the frame's own places count.
   pub last-same : (q r : ℕ → Bool) (i : ℕ) → i < n → ((k : ℕ) → k < n → fr k ≡ fr i → q k ≡ r k) → last n fr q i ≡ last n fr r i
   last-same q r i a h = same-tests (half q r h) (half r q (λ k l e. sym (h k l e)))
     where
       half : (q r : ℕ → Bool) → ((k : ℕ) → k < n → fr k ≡ fr i → q k ≡ r k) → So (last n fr q i) → So (last n fr r i)
       half q r h t = let o = last-out q i t in last-in r a (sym (h i a refl) ∙ o .0) (λ k b c e u. o .1 k b c e (h k c e ∙ u))
 
-  -- Every step that is not reached is later than every step that is marked, and firsts are reached: then what is reached is due, at the count of reached steps.
+  -- Where S7 holds and firsts are reached, what is reached is what is due at the count of reached steps.
   module _ (s : ℕ → Bool)
       (kept : (i : ℕ) → i < n → step fr i ≡ false → So (reach n fr s i))
       (later : (i j : ℕ) → i < n → j < n → So (step fr i) → reach n fr s i ≡ false → So (step fr j) → So (s j) → j < i) where
     abbrev taken : ℕ → Bool
     taken i = step fr i && reach n fr s i
 
-    -- a taken step comes before every step that is not taken
+    -- A taken step comes before every step that is not taken.
     before : (i k : ℕ) → i < n → k < n → So (step fr i) → reach n fr s i ≡ false → So (taken k) → k < i
     before i k a b t f u =
         let v = simp and-eq-true-iff at u in
@@ -169,7 +169,7 @@ module _ (n : ℕ) (fr : ℕ → ℕ) where
         absurd (omega (arith, due-out fr _ i d t)))
         (λ g. kept i a g)))
 
-  -- The last due places of each frame, at position p.
+  -- WHO IS SHOWN AT POSITION p: the last due place of each frame.
   module _ (p : ℕ) where
     abbrev pub shows : ℕ → Bool
     shows = last n fr (due fr p)
@@ -203,7 +203,7 @@ module _ (n : ℕ) (fr : ℕ → ℕ) where
         by-lt j i (λ l. l) (λ l.
         absurd (clash (shows-reach i a ∙ due-in fr p i (omega (arith, count-mono (step fr) j l))) (not-true _ (u .1))))
 
-  -- The one step i between position p and the next.
+  -- ONE STEP: i is the step between position p and the next.
   module _ (p i : ℕ) (a : i < n) (s : So (step fr i)) (e : count (step fr) i ≡ p) where
     pub next-due : (m : ℕ) → (fr m ≡ fr i → ⊥) → due fr p m ≡ due fr (suc p) m
     next-due m ne =
@@ -216,13 +216,13 @@ module _ (n : ℕ) (fr : ℕ → ℕ) where
         by-order m i (λ l. due-in fr p m (omega (arith, count-in (step fr) i l t))) (λ q. absurd (ne (ap fr q))) (λ l. absurd (omega (arith, count-in (step fr) m l s))))
         (λ f. due-first fr _ m f))
 
-    -- after it, i is shown
+    -- After it, i is shown.
     pub next-shows : So (shows (suc p) i)
     next-shows =
         last-in (due fr (suc p)) a (due-in fr (suc p) i (omega arith)) (λ k b c f d.
         omega (arith, due-out fr (suc p) k d (step-in fr b (sym f)), count-in (step fr) k b s))
 
-    -- it is the earliest step that is not due at p
+    -- It is the earliest upcoming step at p,
     pub next-first : earliest (λ k. step fr k && not (reach n fr (shows p) k)) n ≡ i
     next-first =
         earliest-is _ n a
@@ -231,21 +231,21 @@ module _ (n : ℕ) (fr : ℕ → ℕ) where
         let u = simp and-eq-true-iff at t in
         clash (shows-reach p m (omega arith) ∙ due-in fr p m (omega (arith, count-in (step fr) i l (u .0)))) (not-true _ (u .1)))
 
-    -- and the latest marked step at suc p
+    -- and the latest shown step at the next position.
     pub next-last : latest (λ k. step fr k && shows (suc p) k) n ≡ i
     next-last =
         latest-is _ n a (simp and-eq-true-iff (s, next-shows)) (λ m b c t.
         let u = simp and-eq-true-iff at t in
         omega (arith, due-out fr (suc p) m (last-out (due fr (suc p)) m (u .1) .0) (u .0), count-in (step fr) m b s))
 
-    -- before it, its frame showed the row before it there
+    -- Before it, its frame shows the place before it there.
     module _ (j : ℕ) (l : j < i) (f : fr j ≡ fr i) (gap : (m : ℕ) → j < m → m < i → fr m ≡ fr i → ⊥) where
       pub before-shows : So (shows p j)
       before-shows =
           last-in (due fr p) (omega arith) (test (step fr j) (λ t. due-in fr p j (omega (arith, count-in (step fr) i l t))) (λ g. due-first fr p j g)) (λ k b c g d.
           by-lt k i (λ v. gap k b v (g ∙ f)) (λ v. omega (arith, due-out fr p k d (step-in fr b (sym g)), count-mono (step fr) k v)))
 
-  -- Only i of its frame, and the rest as at p: that is q, if i is marked at q and no other frame differs.
+  -- To show i at p gives q, if i is shown at q and no other frame differs.
   pub swap : (p q i : ℕ) → i < n → So (shows q i) → ((m : ℕ) → (fr m ≡ fr i → ⊥) → due fr p m ≡ due fr q m) → (k : ℕ) → k < n →
       cond (same fr i k) (eqb k i) (shows p k) ≡ shows q k
   swap p q i a s rest k b =

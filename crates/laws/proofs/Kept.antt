@@ -28,7 +28,7 @@ dueKept n fr keep p = count (λ k. keep k && (step fr k && due fr p k)) n
 
 -- Places kept, where g tells their frames.
 module _ (n : ℕ) (fr g : ℕ → ℕ) (keep : ℕ → Bool) (frames : (k : ℕ) → k < n → So (keep k) → g (count keep k) ≡ fr k) where
-  -- with a place the first of its frame is kept
+  -- With a place the first of its frame is kept.
   module _ (firsts : (j k : ℕ) → j ≤ k → k < n → fr j ≡ fr k → step fr j ≡ false → So (keep k) → So (keep j)) where
     pub step-kept : (k : ℕ) → k < n → So (keep k) → step g (count keep k) ≡ step fr k
     step-kept k a t =
@@ -46,7 +46,7 @@ module _ (n : ℕ) (fr g : ℕ → ℕ) (keep : ℕ → Bool) (frames : (k : ℕ
     pub steps-kept : (i : ℕ) → i ≤ n → count (step g) (count keep i) ≡ count (λ k. keep k && step fr k) i
     steps-kept i a = count-kept keep (step fr) (step g) i (λ k l. step-kept k (omega arith))
 
-    -- due at p: due at the number of kept steps that are
+    -- What is due at p is due at the number of kept steps that are.
     pub due-kept : (p k : ℕ) → k < n → So (keep k) → due g (dueKept n fr keep p) (count keep k) ≡ due fr p k
     unfolding dueKept
     due-kept p k a t =
@@ -75,7 +75,7 @@ module _ (n : ℕ) (fr g : ℕ → ℕ) (keep : ℕ → Bool) (frames : (k : ℕ
         due-in g _ (count keep k) (omega arith))
         (λ s. due-first g _ (count keep k) (e ∙ s)))
 
-  -- with a place the marked ones of its frame are kept
+  -- With a place those of its frame that pass q are kept; r tells of the kept ones.
   module _ (q r : ℕ → Bool) (alike : (k : ℕ) → k < n → So (keep k) → r (count keep k) ≡ q k)
       (whole : (j k : ℕ) → j < n → k < n → fr j ≡ fr k → So (q j) → So (keep k) → So (keep j)) where
     pub last-kept : (k : ℕ) → k < n → So (keep k) → last (count keep n) g r (count keep k) ≡ last n fr q k
@@ -136,7 +136,7 @@ module _ (keep : ℕ → Bool) (rows : List Row) (p : ℕ) (whole : Whole keep r
       ap (count (isStep (kept keep rows))) (kept-length keep rows)
       ∙ steps-kept (length rows) (frameAt rows) (frameAt (kept keep rows)) keep (kept-frames keep rows) (λ j k a b e f. whole j k (omega arith) b e (due-first _ p j f)) (length rows) (omega arith)
 
-  -- flags and removal commute
+  -- To set the flags and to remove is to remove and to set the flags.
   pub removed-at : flagsAt (dueKept (length rows) (frameAt rows) keep p) (kept keep rows) ≡ kept keep (flagsAt p rows)
   removed-at =
       let p' = dueKept (length rows) (frameAt rows) keep p in
@@ -161,7 +161,7 @@ module _ (keep : ℕ → Bool) (rows : List Row) (s6 : S6 rows) (s7 : S7 rows) (
       let few = count-le (λ k. keep k && taken rows k) (λ k. keep k && isStep rows k) (length rows) (λ k l h. let v = simp and-eq-true-iff at h in simp and-eq-true-iff (v .0, v .1 .0)) in
       ap position (sym kept-fixed) ∙ at-position _ (kept keep rows) ∙ omega (arith, removed-steps keep rows (position rows) whole)
 
-  -- the position falls by the taken steps removed
+  -- The position falls by the taken steps removed.
   pub kept-falls : position (kept keep rows) + count (λ k. not (keep k) && taken rows k) (length rows) ≡ position rows
   unfolding position
   kept-falls = omega (arith, kept-position, count-split keep (taken rows) (length rows))

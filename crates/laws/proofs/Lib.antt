@@ -10,3 +10,7 @@ pub mod Removal
 pub mod Navigate
 pub mod Travel
 pub mod Reflect
+pub mod Writes
+pub mod Words
+pub mod Loops
+pub mod Calls

@@ -10,7 +10,7 @@ use Rattle.rules.specs.Below.{someBelow, allBelow, count, earliest, late
 use Rattle.rules.specs.Rows.{Row, Table, none, docAt, isShown, inRecord, place, isFrame, withFlags, climb}
 use Rattle.rules.specs.Steps.{step, reach, position, steps, visible}
 use Rattle.rules.specs.Moves.{freshTable, opened, gone, without, hide, navigated, show, forward, backTarget, rowBefore, back, walked, shownDoc, changeRow, changes}
-use Rattle.rules.specs.Words.{tableOf, wordsOf, written}
+use Rattle.rules.specs.Words.{put, tableOf, rowsOf, wordsOf, written}
 use Rattle.rules.specs.Sound.{soundTable?, sound?}
 use Rattle.rules.specs.Asks.{takenList, upcomingList, stretched, outlineFrame, outlineOf}
 use Rattle.rules.specs.Saved.{number, docsOf, shownPlace, parentOf, contents, body, saved, toldRow, toldRows, loaded, fromSave?}
@@ -60,10 +60,10 @@ yes? (Answer.refuses k) = false
 yes? (Answer.gives []) = false
 yes? (Answer.gives (v ∷ vs)) = lib.Dec.eqb v 1
 
-abbrev seen : Case → Seen
+abbrev pub seen : Case → Seen
 seen c =
     let words = run (c .start) (c .moves) in
-    let rows = tableOf words .rows in
+    let rows = rowsOf words in
     record {
       answers = answersOf (c .start) (c .moves);
       stands = outcome (Call.Position words) .answer;
@@ -355,7 +355,7 @@ table = p1 ∷ p2 ∷ p3 ∷ p4 ∷ p5 ∷ p6 ∷ p7 ∷ p8 ∷ p9 ∷ p10 ∷ p
 pub examples-hold : map seen table ≡ map (λ c. c .expected) table
 unfolding someBelow allBelow count earliest latest tab gather inRecord place isFrame withFlags climb step reach position steps visible
     opened gone without hide navigated show forward backTarget rowBefore back walked shownDoc changeRow changes
-    tableOf wordsOf written soundTable? sound? refusals accepted ladder outcome run flatMap
+    put tableOf wordsOf written soundTable? sound? refusals accepted ladder outcome run flatMap
 examples-hold = refl
 
 -- The small examples: a call and its whole outcome.
@@ -394,6 +394,6 @@ smalls =
 
 pub smalls-hold : map (λ s. outcome (s .call)) smalls ≡ map (λ s. s .expected) smalls
 unfolding someBelow allBelow count earliest latest sum tab gather inRecord place isFrame withFlags climb step reach position steps visible
-    tableOf wordsOf written soundTable? sound? takenList upcomingList stretched outlineFrame outlineOf
+    put tableOf wordsOf written soundTable? sound? takenList upcomingList stretched outlineFrame outlineOf
     number docsOf shownPlace parentOf contents body saved toldRow toldRows loaded fromSave? refusals accepted ladder outcome flatMap
 smalls-hold = refl

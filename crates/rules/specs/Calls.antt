@@ -5,11 +5,10 @@ use mathlib.Core.List.{List, [], _∷_}
 use lib.Dec.{eqb, leb, ltb}
 use lib.IntN.{ℤ, pos, negsuc, _+ℤ_, natAbs}
 use lib.ListN.{length}
-use lib.Seq.{sets}
 use Rattle.rules.specs.Rows.{Row, Table, none, inRecord, flag}
 use Rattle.rules.specs.Steps.{position, steps, visible}
 use Rattle.rules.specs.Moves.{freshTable, opened, cleared, navigated, traversed, changes}
-use Rattle.rules.specs.Words.{capacity, tableOf, written}
+use Rattle.rules.specs.Words.{put, capacity, tableOf, rowsOf, written}
 use Rattle.rules.specs.Sound.{sound?}
 use Rattle.rules.specs.Asks.{takenList, upcomingList, tooFar, stretched, outlineOf}
 use Rattle.rules.specs.Saved.{saved, loaded, fromSave?}
@@ -65,10 +64,10 @@ unsound words = not (sound? words)
 
 -- "document not in the record"; "document there, not visible"
 abbrev pub absent : List ℕ → ℕ → Bool
-absent words d = not (inRecord (tableOf words .rows) d)
+absent words d = not (inRecord (rowsOf words) d)
 
 abbrev pub hidden : List ℕ → ℕ → Bool
-hidden words d = not (visible (tableOf words .rows) d)
+hidden words d = not (visible (rowsOf words) d)
 
 -- "position + δ below 0 or above steps"
 abbrev pub outside : ℕ → ℤ → Bool
@@ -76,7 +75,7 @@ outside n (pos q) = ltb n q
 outside n (negsuc q) = true
 
 abbrev pub beyond : List ℕ → ℤ → Bool
-beyond words δ = outside (steps (tableOf words .rows)) (pos (position (tableOf words .rows)) +ℤ δ)
+beyond words δ = outside (steps (rowsOf words)) (pos (position (rowsOf words)) +ℤ δ)
 
 -- "no row left": for so many rows
 abbrev pub full : List ℕ → List Row → Bool
@@ -103,10 +102,10 @@ unfoldable pub refusals : Call → List Rung
 refusals (Call.Fresh words) = 1 when short words ∷ []
 refusals (Call.Open words parent) =
     1 when short words ∷ 2 when unsound words ∷ 4 when absent words parent ∷ 5 when hidden words parent
-    ∷ 7 when full words (tableOf words .rows) ∷ 8 when (usedUp (tableOf words .nextDoc) || usedUp (tableOf words .nextFrame)) ∷ []
+    ∷ 7 when full words (rowsOf words) ∷ 8 when (usedUp (tableOf words .nextDoc) || usedUp (tableOf words .nextFrame)) ∷ []
 refusals (Call.Navigate words from) =
     1 when short words ∷ 2 when unsound words ∷ 4 when absent words from ∷ 5 when hidden words from
-    ∷ 7 when full words (cleared (tableOf words .rows)) ∷ 8 when usedUp (tableOf words .nextDoc) ∷ []
+    ∷ 7 when full words (cleared (rowsOf words)) ∷ 8 when usedUp (tableOf words .nextDoc) ∷ []
 refusals (Call.Traverse words δ room) =
     let cramped = tooShort room (changes (tableOf words) δ) in
     1 when short words ∷ 2 when unsound words ∷ 6 when beyond words δ ∷ 9 when cramped ∷ []
@@ -114,7 +113,7 @@ refusals (Call.Position words) = 1 when short words ∷ 2 when unsound words ∷
 refusals (Call.Visible words d) = 1 when short words ∷ 2 when unsound words ∷ 4 when absent words d ∷ []
 refusals (Call.Lists words takens upcomings) =
     1 when short words ∷ 2 when unsound words
-    ∷ 9 when (tooShort takens (takenList (tableOf words .rows)) || tooShort upcomings (upcomingList (tableOf words .rows))) ∷ []
+    ∷ 9 when (tooShort takens (takenList (rowsOf words)) || tooShort upcomings (upcomingList (rowsOf words))) ∷ []
 refusals (Call.Stretch takens upcomings δ) = []
 refusals (Call.StretchCount takens upcomings δ) = 6 when tooFar takens upcomings δ ∷ []
 refusals (Call.Outline words room) = 1 when short words ∷ 2 when unsound words ∷ 9 when tooShort room (outlineOf (tableOf words)) ∷ []
@@ -132,16 +131,16 @@ accepted (Call.Open words parent) =
     tableOf words .nextDoc ∷ tableOf words .nextFrame ∷ [] leaving written words (opened (tableOf words) parent) ∷ []
 accepted (Call.Navigate words from) = tableOf words .nextDoc ∷ [] leaving written words (navigated (tableOf words) from) ∷ []
 accepted (Call.Traverse words δ room) =
-    length (changes (tableOf words) δ) / 4 ∷ [] leaving written words (traversed (tableOf words) δ) ∷ sets room 0 (changes (tableOf words) δ) ∷ []
-accepted (Call.Position words) = position (tableOf words .rows) ∷ steps (tableOf words .rows) ∷ steps (tableOf words .rows) ∷ [] leaving []
-accepted (Call.Visible words d) = flag (visible (tableOf words .rows) d) ∷ [] leaving []
+    length (changes (tableOf words) δ) / 4 ∷ [] leaving written words (traversed (tableOf words) δ) ∷ put room 0 (changes (tableOf words) δ) ∷ []
+accepted (Call.Position words) = position (rowsOf words) ∷ steps (rowsOf words) ∷ steps (rowsOf words) ∷ [] leaving []
+accepted (Call.Visible words d) = flag (visible (rowsOf words) d) ∷ [] leaving []
 accepted (Call.Lists words takens upcomings) =
-    length (takenList (tableOf words .rows)) ∷ length (upcomingList (tableOf words .rows)) ∷ []
-    leaving sets takens 0 (takenList (tableOf words .rows)) ∷ sets upcomings 0 (upcomingList (tableOf words .rows)) ∷ []
+    length (takenList (rowsOf words)) ∷ length (upcomingList (rowsOf words)) ∷ []
+    leaving put takens 0 (takenList (rowsOf words)) ∷ put upcomings 0 (upcomingList (rowsOf words)) ∷ []
 accepted (Call.Stretch takens upcomings δ) = stretched takens upcomings δ leaving []
 accepted (Call.StretchCount takens upcomings δ) = natAbs δ ∷ [] leaving []
-accepted (Call.Outline words room) = length (outlineOf (tableOf words)) / 2 ∷ [] leaving sets room 0 (outlineOf (tableOf words)) ∷ []
-accepted (Call.Save words room) = length (saved (tableOf words)) ∷ [] leaving sets room 0 (saved (tableOf words)) ∷ []
+accepted (Call.Outline words room) = length (outlineOf (tableOf words)) / 2 ∷ [] leaving put room 0 (outlineOf (tableOf words)) ∷ []
+accepted (Call.Save words room) = length (saved (tableOf words)) ∷ [] leaving put room 0 (saved (tableOf words)) ∷ []
 accepted (Call.Load words bytes) = length (loaded bytes .rows) ∷ [] leaving written words (loaded bytes) ∷ []
 
 -- "Where several apply, the smallest number is given. A refusal returns its number alone [..] and changes no lent word or byte."

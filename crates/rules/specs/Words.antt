@@ -6,6 +6,10 @@ use lib.Seq.{sets}
 use Rattle.rules.specs.Below.{tab}
 use Rattle.rules.specs.Rows.{Row, Table}
 
+-- A run with these values from a place on; the rest is kept.
+unfoldable pub put : List ℕ → ℕ → List ℕ → List ℕ
+put old at values = sets old at values
+
 -- "Capacity C is (words - 3) / 4 rounded down, at most 512"
 abbrev pub capacityOf : ℕ → ℕ
 capacityOf len = min ((len - 3) / 4) 512
@@ -22,6 +26,9 @@ rowIn words i =
 unfoldable pub tableOf : List ℕ → Table
 tableOf words = record { rows = tab (getD words 0 0) (rowIn words); nextDoc = getD words 1 0; nextFrame = getD words 2 0 }
 
+abbrev pub rowsOf : List ℕ → List Row
+rowsOf words = tableOf words .rows
+
 abbrev pub rowWords : Row → List ℕ
 rowWords r = r .doc ∷ r .frame ∷ r .parent ∷ r .shown ∷ []
 
@@ -31,4 +38,4 @@ wordsOf c t = length (t .rows) ∷ t .nextDoc ∷ t .nextFrame ∷ (flatMap rowW
 
 -- The words with this table in them: "words past 3 + 4C are neither read nor written".
 unfoldable pub written : List ℕ → Table → List ℕ
-written words t = sets words 0 (wordsOf (capacity words) t)
+written words t = put words 0 (wordsOf (capacity words) t)

@@ -1,0 +1,3 @@
+-- What the customer buys, as theorems over the definitions of `rules`.
+pub mod Examples
+pub mod Determined

@@ -1,0 +1,153 @@
+-- Loops over the numbers below a bound: what holds before the first turn, what a turn adds, what a return tells.
+-- In each, b is what the turn's test answered at i. The rulesets are for `search` at the needs of a loop. Assumes nothing.
+use Prim.Native.Nat.{ℕ, zero, suc, _+_, _-_, _≤_, _<_}
+use mathlib.Core.Bool.{Bool, true, false, _&&_, _||_, So, cond}
+use mathlib.Core.Path.{_≡_, refl, sym, ap, subst, _∙_}
+use native.Mathlib.Nat.{not-suc-le-zero, le-antisymm}
+use native.Mathlib.Numerals.{add-one}
+use native.Mathlib.Omega.{arith}
+use mir.Syntax.{w64}
+use mir.Val.{Fits, boolByte}
+use borrow.Author.Needs.{needs}
+use borrow.Author.Tests.{not-true, not-false, lt-ltb, le-ltb, le-leb, lt-leb, eq-eqb, ne-eqb}
+use Rattle.rules.specs.Below.{someBelow, allBelow, count, earliest, latest}
+use Rattle.laws.proofs.Tests.{test, clash, off, or-false, some-in, some-out, all-in, all-out, count-zero, count-yes, count-no, earliest-is}
+
+module _ (p : ℕ → Bool) where
+  -- EVERY
+  pub all-none : allBelow 0 p ≡ true
+  unfolding allBelow
+  all-none = refl
+
+  pub all-more : (i : ℕ) (b : Bool) → allBelow i p ≡ true → b ≡ p i → b ≡ true → allBelow (i + 1) p ≡ true
+  unfolding allBelow
+  all-more i b all e t = rw (add-one, ← e, t, all) refl
+
+  pub all-fails : (n i : ℕ) (b : Bool) → i < n → b ≡ p i → b ≡ false → false ≡ allBelow n p
+  all-fails n i b l e t = sym (off (allBelow n p) (λ h. clash (all-out p n h i l) (sym e ∙ t)))
+
+  pub all-done : (n i : ℕ) → i ≤ n → n ≤ i → allBelow i p ≡ true → true ≡ allBelow n p
+  all-done n i a b all = sym (subst (λ k. allBelow k p ≡ true) (le-antisymm a b) all)
+
+  -- SOME
+  pub some-none : someBelow 0 p ≡ false
+  unfolding someBelow
+  some-none = refl
+
+  pub some-more : (i : ℕ) (b : Bool) → someBelow i p ≡ false → b ≡ p i → b ≡ false → someBelow (i + 1) p ≡ false
+  unfolding someBelow
+  some-more i b some e t = rw (add-one, ← e, t, some) refl
+
+  pub some-found : (n i : ℕ) (b : Bool) → i < n → b ≡ p i → b ≡ true → true ≡ someBelow n p
+  some-found n i b l e t = sym (some-in p n l (sym e ∙ t))
+
+  pub some-done : (n i : ℕ) → i ≤ n → n ≤ i → someBelow i p ≡ false → false ≡ someBelow n p
+  some-done n i a b some = sym (subst (λ k. someBelow k p ≡ false) (le-antisymm a b) some)
+
+  -- HOW MANY
+  pub count-none : 0 ≡ count p 0
+  count-none = sym (count-zero p)
+
+  pub count-more : (i k : ℕ) (b : Bool) → k ≡ count p i → b ≡ p i → k + boolByte b ≡ count p (i + 1)
+  count-more i k true e t = rw (add-one i) (omega (arith, count-yes p i (sym t)))
+  count-more i k false e t = rw (add-one i) (omega (arith, count-no p i (sym t)))
+
+  pub count-hit : (i k j : ℕ) (b : Bool) → k ≡ count p i → b ≡ p i → b ≡ true → j ≡ k + 1 → j ≡ count p (i + 1)
+  count-hit i k j b e t h q = rw (add-one i) (omega (arith, count-yes p i (sym t ∙ h)))
+
+  pub count-miss : (i k j : ℕ) (b : Bool) → k ≡ count p i → b ≡ p i → b ≡ false → j ≡ k → j ≡ count p (i + 1)
+  count-miss i k j b e t h q = rw (add-one i) (omega (arith, count-no p i (sym t ∙ h)))
+
+  pub count-done : (n i k : ℕ) → i ≤ n → n ≤ i → k ≡ count p i → k ≡ count p n
+  count-done n i k a b e = e ∙ ap (count p) (le-antisymm a b)
+
+  -- THE EARLIEST, going up
+  pub first-found : (n i : ℕ) (b : Bool) → someBelow i p ≡ false → i < n → b ≡ p i → b ≡ true → i ≡ earliest p n
+  first-found n i b none l e t = sym (earliest-is p n l (sym e ∙ t) (λ m k s. clash (some-in p i k s) none))
+
+  pub earliest-none : (n : ℕ) → someBelow n p ≡ false → earliest p n ≡ n
+  unfolding earliest
+  earliest-none zero e = refl
+  earliest-none (suc n) e = rw (off (someBelow n p) (λ s. lost n s e), off (p n) (λ s. clash (some-in p (suc n) (omega arith) s) e)) refl
+    where
+      lost : (n : ℕ) → So (someBelow n p) → someBelow (suc n) p ≡ false → ⊥
+      lost n s e = let k = some-out p n s in clash (some-in p (suc n) (omega arith) (k .2)) e
+
+  pub first-done : (n i : ℕ) → i ≤ n → n ≤ i → someBelow i p ≡ false → n ≡ earliest p n
+  first-done n i a b none = sym (earliest-none n (subst (λ k. someBelow k p ≡ false) (le-antisymm a b) none))
+
+  -- THE LATEST, going down
+  down : (P : ℕ → ℕ → Type 0) → ((k : ℕ) → P (suc k) k) → (i : ℕ) → 0 < i → P i (i - 1)
+  down P h zero l = absurd (not-suc-le-zero l)
+  down P h (suc k) l = let e : k ≡ suc k - 1 = omega arith in subst (P (suc k)) e (h k)
+
+  latest-yes : (k : ℕ) → So (p k) → latest p (suc k) ≡ k
+  unfolding latest
+  latest-yes k t = rw t refl
+
+  latest-no : (k : ℕ) → p k ≡ false → latest p (suc k) ≡ latest p k
+  unfolding latest
+  latest-no k f = rw f refl
+
+  pub last-more : (n i : ℕ) (b : Bool) → latest p n ≡ latest p i → 0 < i → b ≡ p (i - 1) → b ≡ false → latest p n ≡ latest p (i - 1)
+  last-more n i b h l e t = h ∙ down (λ i k. p k ≡ false → latest p i ≡ latest p k) latest-no i l (sym e ∙ t)
+
+  pub last-found : (n i : ℕ) (b : Bool) → latest p n ≡ latest p i → 0 < i → b ≡ p (i - 1) → b ≡ true → i - 1 ≡ latest p n
+  last-found n i b h l e t = sym (h ∙ down (λ i k. So (p k) → latest p i ≡ k) latest-yes i l (sym e ∙ t))
+
+pub count-within : (i k : ℕ) (b : Bool) → k ≤ i → k + boolByte b ≤ i + 1
+count-within i k true l = omega arith
+count-within i k false l = omega arith
+
+pub count-fits : (n i k : ℕ) (b : Bool) → k ≤ i → i < n → Fits w64 n → Fits w64 (k + boolByte b)
+count-fits n i k b l m f = record { fits = omega (arith, count-within i k b l) }
+
+pub ruleset loops = (
+  needs,
+  not-true,
+  not-false,
+  all-none,
+  all-more,
+  all-fails,
+  all-done,
+  some-none,
+  some-more,
+  some-found,
+  some-done,
+  count-none,
+  count-more,
+  count-within,
+  count-fits,
+  count-done,
+  first-found,
+  first-done,
+  last-more,
+  last-found,
+)
+
+-- Where a branch counts and the ways meet.
+pub ruleset joins = (loops, count-hit, count-miss)
+
+-- TESTS ONE AFTER THE OTHER, each answered by a call or by the code itself
+pub and-stop : (x y b : Bool) → b ≡ x → b ≡ false → false ≡ (x && y)
+and-stop x y b e t = rw (← e, t) refl
+
+pub and-go : (x y b r : Bool) → b ≡ x → b ≡ true → r ≡ y → r ≡ (x && y)
+and-go x y b r e t h = rw (← e, t) h
+
+pub ruleset chain = (needs, not-true, not-false, and-stop, and-go)
+
+module _ {A : Type 0} where
+  pub pick-yes : (x : Bool) (a b r : A) → x ≡ true → r ≡ a → r ≡ cond x a b
+  pick-yes x a b r e h = rw e h
+
+  pub pick-no : (x : Bool) (a b r : A) → x ≡ false → r ≡ b → r ≡ cond x a b
+  pick-no x a b r e h = rw e h
+
+  pub pick-by-yes : (x y : Bool) (a b r : A) → y ≡ x → y ≡ true → r ≡ a → r ≡ cond x a b
+  pick-by-yes x y a b r t e h = rw (← t, e) h
+
+  pub pick-by-no : (x y : Bool) (a b r : A) → y ≡ x → y ≡ false → r ≡ b → r ≡ cond x a b
+  pick-by-no x y a b r t e h = rw (← t, e) h
+
+pub ruleset picks = (needs, not-true, not-false, pick-by-yes, pick-by-no, pick-yes, pick-no, lt-ltb, le-ltb, le-leb, lt-leb, eq-eqb, ne-eqb)

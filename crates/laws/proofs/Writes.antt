@@ -1,0 +1,91 @@
+-- Runs of values put into a list: one after the other, one over another, far apart. No law asks that the places are in the list. Assumes nothing.
+use Prim.Native.Nat.{ℕ, zero, suc, _+_, _≤_, _<_}
+use mathlib.Core.List.{List, [], _∷_, _++_}
+use mathlib.Core.Logic.{_≢_}
+use mathlib.Core.Path.{_≡_, refl, sym, ap, _∙_}
+use native.Mathlib.Nat.{suc-inj, suc-ne-zero}
+use native.Mathlib.Omega.{arith}
+use lib.ListN.{length, getD, set, take, drop, replicate, List·getD-append, length-append}
+use lib.Seq.{sets, length-sets, set-set, set-comm, set-getD, sets-eq, length-take-le, getD-append-add, getD-set-other}
+use Rattle.rules.specs.Words.{put}
+
+pub length-put : (l : List ℕ) (i : ℕ) (vs : List ℕ) → length (put l i vs) ≡ length l
+unfolding put
+length-put l i vs = length-sets l i vs
+
+pub put-none : (l : List ℕ) (i : ℕ) → l ≡ put l i []
+unfolding put
+put-none l i = refl
+
+pub put-one : (l : List ℕ) (i v : ℕ) → set l i v ≡ put l i (v ∷ [])
+unfolding put
+put-one l i v = refl
+
+-- One after the other.
+pub put-put : (vs ws l : List ℕ) (i : ℕ) → put (put l i vs) (i + length vs) ws ≡ put l i (vs ++ ws)
+unfolding put
+put-put [] ws l i = ap (λ k. sets l k ws) (omega arith)
+put-put (v ∷ vs) ws l i =
+    let e : i + suc (length vs) ≡ suc i + length vs = omega arith in
+    rw e (put-put vs ws (set l i v) (suc i))
+
+-- Far apart: in either order.
+set-far : (vs l : List ℕ) (i j v : ℕ) → i < j → sets (set l i v) j vs ≡ set (sets l j vs) i v
+set-far [] l i j v h = refl
+set-far (w ∷ vs) l i j v h =
+    let ne : i ≢ j = λ e. omega arith in
+    rw (set-comm l i j v w ne) (set-far vs (set l j w) i (suc j) v (omega arith))
+
+pub put-far : (us vs l : List ℕ) (i j : ℕ) → i + length us ≤ j → put (put l i us) j vs ≡ put (put l j vs) i us
+unfolding put
+put-far [] vs l i j h = refl
+put-far (u ∷ us) vs l i j h =
+    put-far us vs (set l i u) (suc i) j (omega arith) ∙ ap (λ t. sets t (suc i) us) (set-far vs l i j u (omega arith))
+
+-- One over another of its length.
+pub put-over : (us vs l : List ℕ) (i : ℕ) → length us ≡ length vs → put (put l i us) i vs ≡ put l i vs
+unfolding put
+put-over [] [] l i e = refl
+put-over [] (v ∷ vs) l i e = absurd (suc-ne-zero (length vs) (sym e))
+put-over (u ∷ us) [] l i e = absurd (suc-ne-zero (length us) e)
+put-over (u ∷ us) (v ∷ vs) l i e =
+    ap (λ t. sets t (suc i) vs) (sym (set-far us (set l i u) i (suc i) v (omega arith)) ∙ rw (set-set l i u v))
+    ∙ put-over us vs (set l i v) (suc i) (suc-inj e)
+
+-- A part in the middle, written anew.
+pub put-inside : (vs us ws ts l : List ℕ) (i : ℕ) → length us ≡ length ws → put (put l i (vs ++ (us ++ ts))) (i + length vs) ws ≡ put l i (vs ++ (ws ++ ts))
+put-inside vs us ws ts l i e =
+    let m = put l i vs in
+    let at = i + length vs in
+    let f : at + length us ≡ at + length ws = ap (λ k. at + k) e in
+    let g : put (put (put m at us) (at + length us) ts) at ws ≡ put (put m at ws) (at + length us) ts =
+    sym (put-far ws ts (put m at us) at (at + length us) (omega (arith, e))) ∙ ap (λ t. put t (at + length us) ts) (put-over us ws m at e) in
+    ap (λ t. put t at ws) (sym (put-put vs (us ++ ts) l i) ∙ sym (put-put us ts m at)) ∙ g ∙ rw f (put-put ws ts m at ∙ put-put vs (ws ++ ts) l i)
+
+-- What stands where.
+pub get-put-in : (l vs : List ℕ) (i k : ℕ) → i + length vs ≤ length l → k < length vs → getD (put l i vs) (i + k) 0 ≡ getD vs k 0
+unfolding put
+get-put-in l vs i k h m =
+    let e : length (take i l) ≡ i = length-take-le i l (omega arith) in
+    let f : i + k < length (take i l ++ vs) = rw length-append (omega arith) in
+    ap (λ t. getD t (i + k) 0) (sets-eq vs l i h) ∙ List·getD-append (take i l ++ vs) (drop (i + length vs) l) 0 (i + k) f
+    ∙ ap (λ j. getD (take i l ++ vs) (j + k) 0) (sym e) ∙ getD-append-add (take i l) vs k 0
+
+pub get-put-past : (vs l : List ℕ) (i j : ℕ) → i + length vs ≤ j → getD (put l i vs) j 0 ≡ getD l j 0
+unfolding put
+get-put-past [] l i j h = refl
+get-put-past (v ∷ vs) l i j h = get-put-past vs (set l i v) (suc i) j (omega arith) ∙ getD-set-other l i j v 0 (λ e. omega arith)
+
+pub get-put-before : (vs l : List ℕ) (i j : ℕ) → j < i → getD (put l i vs) j 0 ≡ getD l j 0
+unfolding put
+get-put-before [] l i j h = refl
+get-put-before (v ∷ vs) l i j h = get-put-before vs (set l i v) (suc i) j (omega arith) ∙ getD-set-other l i j v 0 (λ e. omega arith)
+
+-- To put what is there changes nothing.
+pub put-same : (vs l : List ℕ) (i : ℕ) → ((k : ℕ) → k < length vs → getD vs k 0 ≡ getD l (i + k) 0) → put l i vs ≡ l
+unfolding put
+put-same [] l i h = refl
+put-same (v ∷ vs) l i h =
+    let e : i + 0 ≡ i = omega arith in
+    let s : set l i v ≡ l = ap (set l i) (h 0 (omega arith) ∙ ap (λ j. getD l j 0) e) ∙ set-getD l i 0 in
+    ap (λ t. sets t (suc i) vs) s ∙ put-same vs l (suc i) (λ k m. h (suc k) (omega arith) ∙ ap (λ j. getD l j 0) (omega arith))
