@@ -226,6 +226,13 @@ module _ (p : ℕ → Bool) where
       (λ b. rw (off (p n) (none n b (omega arith))) (latest-is n b s (λ m c d. none m c (omega arith))))
       (below-cases l)
 
+  -- Where some number passes, the latest does.
+  pub latest-out : (n : ℕ) → So (someBelow n p) → (latest p n < n) × So (p (latest p n))
+  latest-out n s =
+      let k = some-out p n s in
+      let g = greatest n (k .1) (k .2) in
+      rw (latest-is n (g .2) (g .3) (g .4)) (g .2, g .3)
+
 -- WHAT THEY GIVE
 
 module _ {A : Type 0} where

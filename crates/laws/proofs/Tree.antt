@@ -49,7 +49,7 @@ place-is rows t i d l e =
 
 -- OF A SOUND TABLE
 
-rising-all : (n : ℕ) (doc : ℕ → ℕ) → ((i : ℕ) → suc i < n → doc i < doc (suc i)) → (j i : ℕ) → i < j → j < n → doc i < doc j
+pub rising-all : (n : ℕ) (doc : ℕ → ℕ) → ((i : ℕ) → suc i < n → doc i < doc (suc i)) → (j i : ℕ) → i < j → j < n → doc i < doc j
 rising-all n doc h zero i l m = absurd (not-suc-le-zero l)
 rising-all n doc h (suc j) i l m =
     ⊎-elim (λ e. rw e (h j m)) (λ k. omega (arith, rising-all n doc h j i k (omega arith), h j m)) (below-cases l)

@@ -6,8 +6,9 @@ use native.Mathlib.Nat.{not-suc-le-zero}
 use native.Mathlib.Omega.{arith}
 use lib.ListN.{length, getD, replicate, length-append, length-replicate, getD-replicate, List·getD-append}
 use lib.Seq.{getD-append-add}
+use borrow.Author.Needs.{needs}
 use Rattle.rules.specs.Below.{tab}
-use Rattle.rules.specs.Rows.{Row, Table, noRow, rowAt}
+use Rattle.rules.specs.Rows.{Row, Table, noRow, rowAt, docAt, frameAt, parentAt, shownAt}
 use Rattle.rules.specs.Words.{put, capacity, rowIn, tableOf, rowsOf, rowWords, wordsOf, written}
 use Rattle.rules.specs.Sound.{S8, SoundTable, Sound}
 use Rattle.laws.proofs.Tests.{by-lt, length-tab, tab-at, tab-is}
@@ -21,6 +22,36 @@ module _ (words : List ℕ) where
   pub rows-row : (i : ℕ) → i < getD words 0 0 → rowAt (rowsOf words) i ≡ rowIn words i
   unfolding tableOf
   rows-row i l = tab-at (rowIn words) (getD words 0 0) noRow l
+
+-- What a reader of the words reads.
+module _ (words : List ℕ) where
+  pub count-in-words : (n : ℕ) → n ≡ getD words 0 0 → n ≡ length (rowsOf words)
+  count-in-words n e = e ∙ sym (rows-length words)
+
+  pub next-doc-in : getD words 1 0 ≡ tableOf words .nextDoc
+  unfolding tableOf
+  next-doc-in = refl
+
+  pub next-frame-in : getD words 2 0 ≡ tableOf words .nextFrame
+  unfolding tableOf
+  next-frame-in = refl
+
+  row-in : (i : ℕ) → i < length (rowsOf words) → rowIn words i ≡ rowAt (rowsOf words) i
+  row-in i l = sym (rows-row words i (omega (arith, rows-length words)))
+
+  pub doc-in : (i : ℕ) → i < length (rowsOf words) → getD words (3 + 4 * i) 0 ≡ docAt (rowsOf words) i
+  doc-in i l = ap (λ r. r .doc) (row-in i l)
+
+  pub frame-in : (i : ℕ) → i < length (rowsOf words) → getD words (4 + 4 * i) 0 ≡ frameAt (rowsOf words) i
+  frame-in i l = ap (λ r. r .frame) (row-in i l)
+
+  pub parent-in : (i : ℕ) → i < length (rowsOf words) → getD words (5 + 4 * i) 0 ≡ parentAt (rowsOf words) i
+  parent-in i l = ap (λ r. r .parent) (row-in i l)
+
+  pub shown-in : (i : ℕ) → i < length (rowsOf words) → getD words (6 + 4 * i) 0 ≡ shownAt (rowsOf words) i
+  shown-in i l = ap (λ r. r .shown) (row-in i l)
+
+pub ruleset reading = (needs, count-in-words, next-doc-in, next-frame-in, doc-in, frame-in, parent-in, shown-in)
 
 pub length-words : (rows : List Row) → length (flatMap rowWords rows) ≡ 4 * length rows
 unfolding flatMap

@@ -76,8 +76,12 @@ s7? rows =
 pub record S8 (words : List ℕ) : Type 0 where
   pub zeros : (k : ℕ) → 3 + 4 * getD words 0 0 ≤ k → k < 3 + 4 * capacity words → getD words k 0 ≡ 0
 
+-- Word k comes before the rows not in use, or is zero.
+abbrev pub zero? : List ℕ → ℕ → Bool
+zero? words k = ltb k (3 + 4 * getD words 0 0) || eqb (getD words k 0) 0
+
 abbrev pub s8? : List ℕ → Bool
-s8? words = allBelow (3 + 4 * capacity words) (λ k. ltb k (3 + 4 * getD words 0 0) || eqb (getD words k 0) 0)
+s8? words = allBelow (3 + 4 * capacity words) (zero? words)
 
 -- All but S8, of a table with room for so many rows.
 pub record SoundTable (room : ℕ) (t : Table) : Type 0 where

@@ -1,0 +1,74 @@
+-- Scans downwards for the latest row that passes. Assumes nothing.
+use Prim.Native.Nat.{ℕ, zero, suc, _-_, _≤_, _<_}
+use mathlib.Core.Bool.{Bool, true, false, So, cond}
+use mathlib.Core.Path.{_≡_, refl, sym, ap, subst, _∙_}
+use native.Mathlib.Nat.{not-suc-le-zero}
+use native.Mathlib.Omega.{arith}
+use borrow.Author.Needs.{needs}
+use borrow.Author.Tests.{not-true, not-false, eqb-true}
+use Rattle.rules.specs.Below.{someBelow, latest}
+use Rattle.rules.specs.Steps.{same, step}
+use Rattle.laws.proofs.Tests.{test, off, some-in, some-out, latest-out}
+use Rattle.rows.specs.Found.{foundIf, foundBelow}
+use Rattle.base.specs.declared.RowPlace.{RowPlace}
+use Rattle.rows.specs.Tally.{Under}
+use Rattle.rows.specs.declared.Found.{Found}
+use Rattle.rows.specs.declared.Found.the-variants.{At, Nothing}
+
+module _ (p : ℕ → Bool) where
+  -- The code's i and i - 1 are k + 1 and k.
+  down : (P : ℕ → ℕ → Type 0) → ((k : ℕ) → P (suc k) k) → (i : ℕ) → 0 < i → P i (i - 1)
+  down P h zero l = absurd (not-suc-le-zero l)
+  down P h (suc k) l = let e : k ≡ suc k - 1 = omega arith in subst (P (suc k)) e (h k)
+
+  here : (k : ℕ) → So (p k) → At (record { 0 = k }) ≡ foundBelow p (suc k)
+  unfolding foundBelow latest
+  here k t = rw (some-in p (suc k) (omega arith) t, t) refl
+
+  on : (k : ℕ) → p k ≡ false → foundBelow p (suc k) ≡ foundBelow p k
+  unfolding foundBelow someBelow latest
+  on k f = test (someBelow k p) (λ t. rw (t, f) refl) (λ t. rw (t, f) refl)
+
+  pub found-here : (n i : ℕ) (b : Bool) → foundBelow p n ≡ foundBelow p i → 0 < i → b ≡ p (i - 1) → b ≡ true → At (record { 0 = i - 1 }) ≡ foundBelow p n
+  found-here n i b h l e t = down (λ i k. So (p k) → At (record { 0 = k }) ≡ foundBelow p i) here i l (sym e ∙ t) ∙ sym h
+
+  pub found-on : (n i : ℕ) (b : Bool) → foundBelow p n ≡ foundBelow p i → 0 < i → b ≡ p (i - 1) → b ≡ false → foundBelow p n ≡ foundBelow p (i - 1)
+  found-on n i b h l e t = h ∙ down (λ i k. p k ≡ false → foundBelow p i ≡ foundBelow p k) on i l (sym e ∙ t)
+
+  pub found-end : (n i : ℕ) → foundBelow p n ≡ foundBelow p i → i ≤ 0 → Nothing ≡ foundBelow p n
+  unfolding foundBelow someBelow
+  found-end n zero h l = sym h
+  found-end n (suc i) h l = absurd (not-suc-le-zero l)
+
+  -- What an answer says.
+  pub found-at : (n : ℕ) (q : RowPlace) → foundBelow p n ≡ At q → So (someBelow n p) × (latest p n ≡ q .0)
+  unfolding foundBelow
+  found-at n q e =
+      test (someBelow n p) (λ t. let f : At (record { 0 = latest p n }) ≡ At q = rw t at e in (t, cc)) (λ t. let f : Nothing ≡ At q = rw t at e in absurd (let z : _≡_ {A = ℕ} 0 1 = cc in omega arith))
+
+  pub found-lower : (n : ℕ) (q : RowPlace) → foundBelow p n ≡ At q → q .0 < n
+  found-lower n q e = let r = found-at n q e in subst (λ k. k < n) (r .1) (latest-out p n (r .0) .0)
+
+  pub found-nothing : (n : ℕ) → foundBelow p n ≡ Nothing → someBelow n p ≡ false
+  unfolding foundBelow
+  found-nothing n e =
+      test (someBelow n p) (λ t. let f : At (record { 0 = latest p n }) ≡ Nothing = rw t at e in absurd (let z : _≡_ {A = ℕ} 0 1 = cc in omega arith)) (λ t. t)
+
+pub ruleset scans = (needs, not-true, not-false, found-here, found-on, found-end)
+
+-- THE ROW BEFORE IN THE FRAME
+
+module _ (fr : ℕ → ℕ) (i : ℕ) where
+  -- A frame number above all before it is a new one.
+  pub found-higher : (high : ℕ) → Under fr i high → high < fr i → Nothing ≡ foundBelow (same fr i) i
+  unfolding foundBelow
+  found-higher high h l =
+      rw (off (someBelow i (same fr i)) (λ s. let k = some-out (same fr i) i s in omega (arith, h (k .0) (k .1), eqb-true (fr (k .0)) (fr i) (k .2)))) refl
+
+  pub step-found : (r : Found) (q : RowPlace) → r ≡ foundBelow (same fr i) i → r ≡ At q → true ≡ step fr i
+  unfolding step
+  step-found r q e f = sym (found-at (same fr i) i q (sym e ∙ f) .0)
+
+  pub first-found : (r : Found) → r ≡ foundBelow (same fr i) i → r ≡ Nothing → false ≡ step fr i
+  unfolding step
+  first-found r e f = sym (found-nothing (same fr i) i (sym e ∙ f))

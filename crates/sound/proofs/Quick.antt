@@ -1,0 +1,337 @@
+-- The quick test is S2 to S7. Assumes nothing.
+use Prim.Native.Nat.{ℕ, zero, suc, _-_, _≤_, _<_}
+use mathlib.Core.Path.{_≡_, refl, sym, ap, _∙_}
+use mathlib.Core.List.{List}
+use mathlib.Core.Logic.{_⊎_, inl, inr, ⊎-elim}
+use mathlib.Core.Bool.{Bool, false, not, _&&_, So, and-eq-true-iff}
+use native.Mathlib.Nat.{not-suc-le-zero}
+use native.Mathlib.Omega.{arith}
+use lib.Dec.{eqb, ltb}
+use lib.ListN.{length}
+use borrow.Author.Tests.{ltb-true, lt-ltb, leb-true, eqb-true, eq-eqb, ne-eqb, not-true}
+use Rattle.rules.specs.Below.{someBelow, count, latest}
+use Rattle.rules.specs.Rows.{Row, Table, none, docAt, frameAt, parentAt, shownAt, isShown, isDoc}
+use Rattle.rules.specs.Steps.{same, step, isStep, reached}
+use Rattle.rules.specs.Moves.{rowBefore}
+use Rattle.rules.specs.Sound.{S1, S2, S4, S5, S6, S7, s1?, SoundTable, soundTable?}
+use Rattle.laws.proofs.Tests.{test, clash, off, same-tests, by-lt, by-order, some-in, some-out}
+use Rattle.laws.proofs.Tests.{count-zero, count-yes, count-no, count-split, one-in, one-out, least, latest-is, latest-out}
+use Rattle.laws.proofs.Frames.{step-in, step-out, first, reach-in, reach-out}
+use Rattle.laws.proofs.Central.{only-shown}
+use Rattle.laws.proofs.Tree.{rising-all}
+use Rattle.laws.proofs.Reflect.{Ref, ref-lt, ref-le, ref-eq, ref-so, ref-map, ref-and, ref-all, sound-table-is}
+use Rattle.sound.specs.Quick.{ordered, linked, comes, calm, rowFine, quick?}
+
+-- HOW MANY
+
+-- Without x, which passes, one less does.
+count-but : (q : ℕ → Bool) (m x : ℕ) → x < m → So (q x) → count q m ≡ suc (count (λ k. not (eqb k x) && q k) m)
+count-but q m x l s =
+    let e = one-in (λ k. eqb k x && q k) m x l (simp and-eq-true-iff (eq-eqb x x refl, s)) (λ i a t. eqb-true i x ((simp and-eq-true-iff at t) .0)) in
+    omega (arith, count-split (λ k. eqb k x) q m)
+
+-- Where p passes at most one of a frame, and only of frames of which q passes one, p passes no more than q.
+no-more : (n m : ℕ) (fr : ℕ → ℕ) (p q : ℕ → Bool) → ((i : ℕ) → i < n → So (p i) → (k : ℕ) × (k < m) × (fr k ≡ fr i) × So (q k)) →
+    ((i j : ℕ) → i < j → j < n → fr i ≡ fr j → So (p i) → So (p j) → ⊥) → count p n ≤ count q m
+no-more zero m fr p q to apart = omega (arith, count-zero p)
+no-more (suc n) m fr p q to apart =
+    test (p n)
+    (λ t.
+    let x = to n (omega arith) t in
+    let less = no-more n m fr p (λ k. not (eqb k (x .0)) && q k)
+    (λ i l s.
+    let k = to i (omega arith) s in
+    let ne = ne-eqb (k .0) (x .0) (λ e. apart i n l (omega arith) (sym (k .2) ∙ ap fr e ∙ x .2) s t) in
+    (k .0, k .1, k .2, rw ne (k .3)))
+    (λ i j a b. apart i j a (omega arith)) in
+    omega (arith, count-yes p n t, count-but q m (x .0) (x .1) (x .3)))
+    (λ f. omega (arith, count-no p n f, no-more n m fr p q (λ i l. to i (omega arith)) (λ i j a b. apart i j a (omega arith))))
+
+-- THE ROW BEFORE
+
+place-before : (fr : ℕ → ℕ) (i : ℕ) → So (step fr i) → (latest (same fr i) i < i) × (fr (latest (same fr i) i) ≡ fr i)
+unfolding step
+place-before fr i s = let r = latest-out (same fr i) i s in (r .0, eqb-true _ _ (r .1))
+
+-- The place after a in its frame, where b is a later one.
+place-after : (fr : ℕ → ℕ) (a b : ℕ) → a < b → fr a ≡ fr b → (i : ℕ) × (i ≤ b) × So (step fr i) × (latest (same fr i) i ≡ a)
+place-after fr a b l e =
+    let r = least (λ m. ltb a m && same fr b m) b (simp and-eq-true-iff (lt-ltb a b l, eq-eqb (fr b) (fr b) refl)) in
+    let u = simp and-eq-true-iff at (r .2) in
+    let k = ltb-true a (r .0) (u .0) in
+    let f = eqb-true (fr (r .0)) (fr b) (u .1) in (
+      r .0,
+      r .1,
+      step-in fr k (e ∙ sym f),
+      latest-is (same fr (r .0)) (r .0) k (eq-eqb _ _ (e ∙ sym f)) (λ m c d t.
+          r .3 m d (simp and-eq-true-iff (lt-ltb a m c, eq-eqb (fr m) (fr b) (eqb-true _ _ t ∙ f)))),
+    )
+
+module _ (rows : List Row) where
+  -- The row before a step; what comes, where a frame goes on after a shown row.
+  row-before : (i : ℕ) → So (isStep rows i) → (rowBefore rows i < i) × (frameAt rows (rowBefore rows i) ≡ frameAt rows i)
+  unfolding rowBefore
+  row-before = place-before (frameAt rows)
+
+  comes-in : (a b : ℕ) → a < b → frameAt rows a ≡ frameAt rows b → So (isShown rows a) → (i : ℕ) × (i ≤ b) × So (comes rows i)
+  unfolding comes rowBefore
+  comes-in a b l e s =
+      let r = place-after (frameAt rows) a b l e in
+      (r .0, r .1, simp and-eq-true-iff (r .2, ap (isShown rows) (r .3) ∙ s))
+
+  comes-out : (i : ℕ) → So (comes rows i) → So (isStep rows i) × So (isShown rows (rowBefore rows i))
+  unfolding comes
+  comes-out i h = simp and-eq-true-iff at h
+
+-- WHAT THE TESTS MEAN
+
+abbrev Even : List Row → Type 0
+Even rows = count (isShown rows) (length rows) ≡ count (λ i. not (isStep rows i)) (length rows)
+
+record Fine (rows : List Row) (nextFrame i : ℕ) : Type 0 where
+  order : So (ordered rows i)
+  framed : frameAt rows i < nextFrame
+  bit : shownAt rows i ≤ 1
+  link : So (linked rows i)
+  quiet : So (calm rows i)
+
+module _ (rows : List Row) where
+  ordered-suc : (i : ℕ) → ordered rows (suc i) ≡ ltb (docAt rows i) (docAt rows (suc i))
+  ordered-suc i =
+      let e : suc i - 1 ≡ i = omega arith in
+      rw (ne-eqb (suc i) 0 (λ z. omega arith)) (ap (λ k. ltb (docAt rows k) (docAt rows (suc i))) e)
+
+  -- A frame's first row: row 0 with no parent, or a row whose parent is earlier.
+  abbrev Headed : ℕ → Type 0
+  Headed i = ((i ≡ 0) × (parentAt rows i ≡ none)) ⊎ ((j : ℕ) × (j < i) × (docAt rows j ≡ parentAt rows i))
+
+  linked-is : (i : ℕ) → Ref (linked rows i) ((So (isStep rows i) → parentAt rows i ≡ parentAt rows (rowBefore rows i)) × (isStep rows i ≡ false → Headed i))
+  unfolding linked
+  linked-is i = (
+    λ h. (
+      λ t. eqb-true _ _ (rw t at h),
+      λ f.
+          let g = rw f at h in
+          test (eqb i 0)
+          (λ z. inl (eqb-true i 0 z, eqb-true _ _ (rw z at g)))
+          (λ z. let r = some-out (isDoc rows (parentAt rows i)) i (rw z at g) in inr (r .0, r .1, eqb-true _ _ (r .2))),
+    ),
+    λ h.
+        test (isStep rows i) (λ t. rw t (eq-eqb _ _ (h .0 t))) (λ f.
+        rw f (⊎-elim
+        (λ a. rw (eq-eqb i 0 (a .0)) (eq-eqb _ _ (a .1)))
+        (λ r. rw (ne-eqb i 0 (λ z. omega arith)) (some-in (isDoc rows (parentAt rows i)) i (r .1) (eq-eqb _ _ (r .2))))
+        (h .1 f))),
+  )
+
+  calm-is : (i : ℕ) → Ref (calm rows i) (So (isStep rows i) → So (isShown rows i) → (k : ℕ) → k ≤ i → So (comes rows k) → ⊥)
+  unfolding calm
+  calm-is i = (
+    λ h s t k l c. clash (some-in (comes rows) (suc i) {k = k} (omega arith) c) (not-true _ (rw (s, t) at h)),
+    λ h.
+        rw (off (isStep rows i && isShown rows i && someBelow (suc i) (comes rows)) (λ t.
+        let u = simp and-eq-true-iff at t in
+        let k = some-out (comes rows) (suc i) (u .1) in
+        h (u .0 .0) (u .0 .1) (k .0) (omega arith) (k .2))),
+  )
+
+  fine-is : (nextFrame i : ℕ) → Ref (rowFine rows nextFrame i) (Fine rows nextFrame i)
+  unfolding rowFine
+  fine-is nextFrame i =
+      ref-map
+      (λ h. record { order = h .0 .0 .0 .0; framed = h .0 .0 .0 .1; bit = h .0 .0 .1; link = h .0 .1; quiet = h .1 })
+      (λ f. ((((f .order, f .framed), f .bit), f .link), f .quiet))
+      (ref-and (ref-and (ref-and (ref-and (ref-so (ordered rows i)) (ref-lt (frameAt rows i) nextFrame)) (ref-le (shownAt rows i) 1)) (ref-so (linked rows i))) (ref-so (calm rows i)))
+
+  quick-means : (nextDoc nextFrame : ℕ) → Ref (quick? rows nextDoc nextFrame) ((((i : ℕ) → i < length rows → Fine rows nextFrame i) × (docAt rows (length rows - 1) < nextDoc)) × Even rows)
+  unfolding quick?
+  quick-means nextDoc nextFrame =
+      ref-and (ref-and (ref-all (fine-is nextFrame) (length rows)) (ref-lt (docAt rows (length rows - 1)) nextDoc))
+      (ref-eq (count (isShown rows) (length rows)) (count (λ i. not (isStep rows i)) (length rows)))
+
+-- FROM THE RULES
+
+sound-ordered : (rows : List Row) {nextDoc : ℕ} → S2 rows nextDoc → (i : ℕ) → i < length rows → So (ordered rows i)
+sound-ordered rows s zero l = refl
+sound-ordered rows s (suc i) l = ordered-suc rows i ∙ lt-ltb _ _ (s .rise i l)
+
+sound-linked : (rows : List Row) → 1 ≤ length rows → S4 rows → S5 rows → (i : ℕ) → i < length rows → So (linked rows i)
+sound-linked rows some s4 s5 i l =
+    linked-is rows i .1 (
+      λ t. let b = row-before rows i t in s5 .kin i (rowBefore rows i) l (omega arith) (sym (b .1)),
+      λ f.
+          by-lt 0 i
+          (λ m. ⊎-elim (λ e. absurd (clash (step-in (frameAt rows) m (s5 .root 0 i some l top e)) f)) (λ r. inr r) (s4 .placed i l))
+          (λ m. let e : i ≡ 0 = omega arith in inl (e, ap (parentAt rows) e ∙ top)),
+    )
+  where
+    top : parentAt rows 0 ≡ none
+    top = ⊎-elim (λ e. e) (λ r. absurd (not-suc-le-zero (r .1))) (s4 .placed 0 some)
+
+module _ (rows : List Row) (s6 : S6 rows) (s7 : S7 rows) where
+  sound-calm : (i : ℕ) → i < length rows → So (calm rows i)
+  sound-calm i l =
+      calm-is rows i .1 (λ s t k m c.
+      let u = comes-out rows k c in
+      let b = row-before rows k (u .0) in
+      let f = off (reached rows k) (λ h.
+      let r = reach-out _ _ _ k h in
+      let e = only-shown rows s6 s7 (rowBefore rows k) (r .0) (omega arith) (r .2) (r .3 ∙ sym (b .1)) (u .1) (r .4) in
+      omega arith) in
+      let z = s7 .later k i (omega arith) l (simp and-eq-true-iff (u .0, rw f refl)) s t in
+      omega arith)
+
+  -- Each frame's first row stands against its shown one.
+  sound-even : Even rows
+  sound-even =
+      let n = length rows in
+      let fr = frameAt rows in
+      let a = no-more n n fr (isShown rows) (λ i. not (isStep rows i))
+      (λ i l s. let r = first fr i in (r .0, omega arith, r .2, rw (r .3) refl))
+      (λ i j l m e s t. let q = only-shown rows s6 s7 i j (omega arith) m (sym e) s t in omega arith) in
+      let b = no-more n n fr (λ i. not (isStep rows i)) (isShown rows)
+      (λ i l s.
+      let r = one-out _ n (s6 .one i l) .0 in
+      let t = simp and-eq-true-iff at (r .2) in
+      (r .0, r .1, eqb-true _ _ (t .0), t .1))
+      (λ i j l m e s t. clash (step-in fr l e) (not-true _ t)) in
+      omega arith
+
+-- TO THE RULES
+
+module _ (rows : List Row) (fine : (i : ℕ) → i < length rows → So (linked rows i)) where
+  -- The first row of i's frame has i's parent.
+  head : (m i : ℕ) → i < m → i < length rows → (j : ℕ) × (j ≤ i) × (frameAt rows j ≡ frameAt rows i) × (parentAt rows j ≡ parentAt rows i) × (isStep rows j ≡ false)
+  head zero i l a = absurd (not-suc-le-zero l)
+  head (suc m) i l a =
+      test (isStep rows i)
+      (λ t.
+      let b = row-before rows i t in
+      let h = head m (rowBefore rows i) (omega arith) (omega arith) in
+      (h .0, omega arith, h .2 ∙ b .1, h .3 ∙ sym (linked-is rows i .0 (fine i a) .0 t), h .4))
+      (λ f. (i, omega arith, refl, refl, f))
+
+  -- What is above a row: nothing, and it is in row 0's frame, or an earlier row.
+  above : (i : ℕ) → i < length rows → ((frameAt rows 0 ≡ frameAt rows i) × (parentAt rows i ≡ none)) ⊎ ((j : ℕ) × (j < i) × (docAt rows j ≡ parentAt rows i))
+  above i l =
+      let h = head (suc i) i (omega arith) l in
+      ⊎-elim
+      (λ a. inl (ap (frameAt rows) (sym (a .0)) ∙ h .2, sym (h .3) ∙ a .1))
+      (λ r. inr (r .0, omega arith, r .2 ∙ h .3))
+      (linked-is rows (h .0) .0 (fine (h .0) (omega arith)) .1 (h .4))
+
+  quick-S4 : S4 rows
+  quick-S4 = record { placed = λ i l. ⊎-elim (λ a. inl (a .1)) (λ r. inr r) (above i l) }
+
+  quick-S5 : ((i : ℕ) → suc i < length rows → docAt rows i ≡ none → ⊥) → S5 rows
+  quick-S5 proper =
+      record {
+        kin = λ i j a b e.
+            let g = head (suc i) i (omega arith) a in
+            let h = head (suc j) j (omega arith) b in
+            let f = g .2 ∙ e ∙ sym (h .2) in
+            let q : g .0 ≡ h .0 =
+            by-order (g .0) (h .0) (λ l. absurd (clash (step-in (frameAt rows) l f) (h .4))) (λ q. q) (λ l. absurd (clash (step-in (frameAt rows) l (sym f)) (g .4))) in
+            sym (g .3) ∙ ap (parentAt rows) q ∙ h .3;
+        root = λ i j a b e f. sym (top i a e) ∙ top j b f;
+      }
+    where
+      top : (i : ℕ) → i < length rows → parentAt rows i ≡ none → frameAt rows 0 ≡ frameAt rows i
+      top i l e = ⊎-elim (λ a. a .0) (λ r. absurd (proper (r .0) (omega arith) (r .2 ∙ e))) (above i l)
+
+module _ (rows : List Row) (fine : (i : ℕ) → i < length rows → So (calm rows i)) where
+  -- A frame has no two shown rows, and with as many shown rows as frames each has one.
+  apart : (i j : ℕ) → i < j → j < length rows → frameAt rows i ≡ frameAt rows j → So (isShown rows i) → So (isShown rows j) → ⊥
+  apart i j l m e s t =
+      let c = comes-in rows i j l e s in
+      calm-is rows j .0 (fine j m) (step-in (frameAt rows) l e) t (c .0) (c .1) (c .2)
+
+  module _ (even : Even rows) where
+    shown : (i : ℕ) → i < length rows → (k : ℕ) × (k < length rows) × (frameAt rows k ≡ frameAt rows i) × So (isShown rows k)
+    shown i l =
+        let n = length rows in
+        let fr = frameAt rows in
+        test (someBelow n (λ k. same fr i k && isShown rows k))
+        (λ h.
+        let r = some-out _ n h in
+        let t = simp and-eq-true-iff at (r .2) in
+        (r .0, r .1, eqb-true _ _ (t .0), t .1))
+        (λ f.
+        let x = first fr i in
+        let a = no-more n n fr (isShown rows) (λ k. not (eqb k (x .0)) && not (isStep rows k))
+        (λ k b s.
+        let r = first fr k in
+        let ne = ne-eqb (r .0) (x .0) (λ e. clash (some-in _ n b (simp and-eq-true-iff (eq-eqb (fr k) (fr i) (sym (r .2) ∙ ap fr e ∙ x .2), s))) f) in
+        (r .0, omega arith, r .2, rw (ne, r .3) refl))
+        apart in
+        absurd (omega (arith, count-but (λ k. not (isStep rows k)) n (x .0) (omega arith) (rw (x .3) refl))))
+
+    quick-S6 : ((i : ℕ) → i < length rows → shownAt rows i ≤ 1) → S6 rows
+    quick-S6 bit =
+        record {
+          bit = bit;
+          one = λ i l.
+              let r = shown i l in
+              one-in _ (length rows) (r .0) (r .1) (simp and-eq-true-iff (eq-eqb _ _ (r .2), r .3)) (λ k m t.
+              let u = simp and-eq-true-iff at t in
+              let e = eqb-true _ _ (u .0) ∙ sym (r .2) in
+              by-order k (r .0) (λ a. absurd (apart k (r .0) a (r .1) e (u .1) (r .3))) (λ q. q) (λ a. absurd (apart (r .0) k a m (sym e) (r .3) (u .1))));
+        }
+
+    quick-S7 : S7 rows
+    quick-S7 =
+        record {
+          later = λ i j a b u s t.
+              let v = simp and-eq-true-iff at u in
+              let r = shown i a in
+              by-lt j i (λ l. l) (λ l.
+              by-lt (r .0) i
+              (λ m.
+              let c = comes-in rows (r .0) i m (r .2) (r .3) in
+              absurd (calm-is rows j .0 (fine j b) s t (c .0) (omega arith) (c .2)))
+              (λ m. absurd (clash (reach-in _ _ (isShown rows) m (r .1) (r .2) (r .3)) (not-true _ (v .1)))));
+        }
+
+-- THE QUICK TEST IS THE TEST OF THE RULES
+
+quick-sound : {room : ℕ} (t : Table) → S1 room (t .rows) → t .nextDoc ≤ none → So (quick? (t .rows) (t .nextDoc) (t .nextFrame)) → SoundTable room t
+quick-sound t s1 w q =
+    let rows = t .rows in
+    let h = quick-means rows (t .nextDoc) (t .nextFrame) .0 q in
+    let rise : (i : ℕ) → suc i < length rows → docAt rows i < docAt rows (suc i) =
+    λ i l. ltb-true _ _ (sym (ordered-suc rows i) ∙ h .0 .0 (suc i) l .order) in
+    let links : (i : ℕ) → i < length rows → So (linked rows i) = λ i l. h .0 .0 i l .link in
+    let calms : (i : ℕ) → i < length rows → So (calm rows i) = λ i l. h .0 .0 i l .quiet in
+    record {
+      s1 = s1;
+      s2 = record { rise = rise; last = h .0 .1 };
+      s3 = record { below = λ i l. h .0 .0 i l .framed };
+      s4 = quick-S4 rows links;
+      s5 = quick-S5 rows links (λ i l e. omega (arith, rising-all (length rows) (docAt rows) rise (length rows - 1) i (omega arith) (omega arith)));
+      s6 = quick-S6 rows calms (h .1) (λ i l. h .0 .0 i l .bit);
+      s7 = quick-S7 rows calms (h .1);
+    }
+
+sound-quick : {room : ℕ} {t : Table} → SoundTable room t → So (quick? (t .rows) (t .nextDoc) (t .nextFrame))
+sound-quick {t = t} s =
+    quick-means (t .rows) (t .nextDoc) (t .nextFrame) .1 (
+      (
+        λ i l.
+            record {
+              order = sound-ordered (t .rows) (s .s2) i l;
+              framed = s .s3 .below i l;
+              bit = s .s6 .bit i l;
+              link = sound-linked (t .rows) (s .s1 .some) (s .s4) (s .s5) i l;
+              quiet = sound-calm (t .rows) (s .s6) (s .s7) i l;
+            },
+        s .s2 .last,
+      ),
+      sound-even (t .rows) (s .s6) (s .s7),
+    )
+
+pub quick-is : (room : ℕ) (t : Table) → So (s1? room (t .rows)) → t .nextDoc ≤ none → quick? (t .rows) (t .nextDoc) (t .nextFrame) ≡ soundTable? room t
+quick-is room t s w =
+    let u = simp and-eq-true-iff at s in
+    same-tests
+    (λ q. sound-table-is room t .1 (quick-sound t (record { some = leb-true _ _ (u .0); fits = leb-true _ _ (u .1) }) w q))
+    (λ h. sound-quick (sound-table-is room t .0 h))

@@ -1,0 +1,39 @@
+-- The test of S2 to S7 as one pass over the rows makes it. That it is the test of the rules is `quick-is`.
+use Prim.Native.Nat.{ℕ, suc, _-_}
+use mathlib.Core.Bool.{Bool, not, _&&_, _||_, cond}
+use mathlib.Core.List.{List}
+use lib.Dec.{eqb, leb, ltb}
+use lib.ListN.{length}
+use Rattle.rules.specs.Below.{someBelow, allBelow, count}
+use Rattle.rules.specs.Rows.{Row, none, docAt, frameAt, parentAt, shownAt, isShown, isDoc}
+use Rattle.rules.specs.Steps.{isStep}
+use Rattle.rules.specs.Moves.{rowBefore}
+
+-- Documents rise from the row before to row i.
+abbrev pub ordered : List Row → ℕ → Bool
+ordered rows i = eqb i 0 || ltb (docAt rows (i - 1)) (docAt rows i)
+
+-- A step has the parent of the row before it in its frame; a frame's first row has an earlier document, the record's first row none.
+unfoldable pub linked : List Row → ℕ → Bool
+linked rows i =
+    cond (isStep rows i) (eqb (parentAt rows i) (parentAt rows (rowBefore rows i)))
+    (cond (eqb i 0) (eqb (parentAt rows i) none) (someBelow i (isDoc rows (parentAt rows i))))
+
+-- The row before i in its frame is shown, so that i is upcoming.
+unfoldable pub comes : List Row → ℕ → Bool
+comes rows i = isStep rows i && isShown rows (rowBefore rows i)
+
+-- A shown step has no upcoming one up to it.
+unfoldable pub calm : List Row → ℕ → Bool
+calm rows i = not (isStep rows i && isShown rows i && someBelow (suc i) (comes rows))
+
+unfoldable pub rowFine : List Row → ℕ → ℕ → Bool
+rowFine rows nextFrame i = ordered rows i && ltb (frameAt rows i) nextFrame && leb (shownAt rows i) 1 && linked rows i && calm rows i
+
+-- As many rows are shown as there are frames.
+abbrev pub evenly : List Row → Bool
+evenly rows = eqb (count (isShown rows) (length rows)) (count (λ i. not (isStep rows i)) (length rows))
+
+unfoldable pub quick? : List Row → ℕ → ℕ → Bool
+quick? rows nextDoc nextFrame =
+    allBelow (length rows) (rowFine rows nextFrame) && ltb (docAt rows (length rows - 1)) nextDoc && evenly rows
