@@ -15,4 +15,8 @@ tally-row-spec =
     (λ c κs. search needs)
     (λ c κs. search needs)
     (λ c κs. search needs)
-    (λ c. tallied-more _ _ _ _ _ _ _ (c .before .before .before .before .before .before .before .pre .1) (c .before .before .before .before .before .is-step .ensures) (c .before .before .before .is-shown .ensures) (c .before .before .either .ensures) (c .higher .ensures .0) (omega arith)))
+    (λ c. let c2 = c .before .before in
+    let c3 = c2 .before in
+    let c5 = c3 .before .before in
+    let c7 = c5 .before .before in
+    tallied-more _ _ _ _ _ _ _ (c7 .pre .1) (c5 .is-step .ensures) (c3 .is-shown .ensures) (c2 .either .ensures) (c .higher .ensures .0) (omega arith)))

@@ -10,9 +10,17 @@ pub has-parent-spec : {M : Type 1} → statement M
 has-parent-spec =
     tie.close (tie.spec
     (λ c κs. search needs)
-    (λ c. parent-known (rowsOf (now (c .before .before .before .before .before .args .words))) _ _ _ (c .before .before .before .parent .ensures) (c .if1 .taken) (c .before .before .before .before .before .pre .1))
+    (λ c. let c3 = c .before .before .before in
+    let c5 = c3 .before .before in
+    parent-known (rowsOf (now (c5 .args .words))) _ _ _ (c3 .parent .ensures) (c .if1 .taken) (c5 .pre .1))
     (λ c κs. search needs)
     (λ c. search needs)
     (λ c. search needs)
-    (λ c. parent-found (rowsOf (now (c .before .before .before .before .before .before .before .before .args .words))) _ _ _ _ (c .before .before .before .before .before .before .parent .ensures) (c .before .before .find-below .ensures) (c .enum-told .given .1))
-    (λ c. parent-lost (rowsOf (now (c .before .before .before .before .before .before .before .before .args .words))) _ _ _ (c .before .before .before .before .before .before .parent .ensures) (c .before .before .find-below .ensures) (c .enum-told2 .given .1)))
+    (λ c. let c2 = c .before .before in
+    let c6 = c2 .before .before .before .before in
+    let c8 = c6 .before .before in
+    parent-found (rowsOf (now (c8 .args .words))) _ _ _ _ (c6 .parent .ensures) (c2 .find-below .ensures) (c .enum-told .given .1))
+    (λ c. let c2 = c .before .before in
+    let c6 = c2 .before .before .before .before in
+    let c8 = c6 .before .before in
+    parent-lost (rowsOf (now (c8 .args .words))) _ _ _ (c6 .parent .ensures) (c2 .find-below .ensures) (c .enum-told2 .given .1)))

@@ -14,14 +14,24 @@ pub pass-row-spec : {M : Type 1} → statement M
 pass-row-spec =
     tie.close (tie.spec
     (λ c κs. search needs)
-    (λ c κs. (c .before .before .before .before .pre .0, c .before .before .before .before .pre .1, c .before .before .look-at .ensures, some-or _ _ _ _ (c .before .before .before .before .pre .2 .late-is) (ap (λ k. k .comes) (c .before .before .look-at .ensures))))
+    (λ c κs. let c2 = c .before .before in
+    let c4 = c2 .before .before in
+    (c4 .pre .0, c4 .pre .1, c2 .look-at .ensures, some-or _ _ _ _ (c4 .pre .2 .late-is) (ap (λ k. k .comes) (c2 .look-at .ensures))))
     (λ c κs. search needs)
     (λ c. search needs)
-    (λ c. steps-fit _ _ _ (c .before .is-shown .result) (c .before .before .before .before .before .before .before .before .pre .2 .few-shown) (c .before .before .before .before .before .before .before .before .pre .0))
+    (λ c. let c8 = c .before .before .before .before .before .before .before .before in
+    steps-fit _ _ _ (c .before .is-shown .result) (c8 .pre .2 .few-shown) (c8 .pre .0))
     (λ c. search needs)
-    (λ c. steps-fit _ _ _ (not (c .before .before .before .before .before .before .before .before .look-at .result .step)) (c .before .before .before .before .before .before .before .before .before .before .pre .2 .few-frames) (c .before .before .before .before .before .before .before .before .before .before .pre .0))
+    (λ c. let c8 = c .before .before .before .before .before .before .before .before in
+    let c10 = c8 .before .before in
+    steps-fit _ _ _ (not (c8 .look-at .result .step)) (c10 .pre .2 .few-frames) (c10 .pre .0))
     (λ c κs. search needs)
     (λ c κs. search needs)
     (λ c κs. search needs)
     (λ c κs. search needs)
-    (λ c. passed-more (rowsOf (now (c .before .before .before .before .before .before .before .before .before .before .before .before .before .before .before .before .args .words))) _ _ _ _ _ _ _ _ _ (c .before .before .before .before .before .before .before .before .before .before .before .before .before .before .before .before .pre .1) (c .before .before .before .before .before .before .before .before .before .before .before .before .before .before .before .before .pre .2) (c .before .before .before .before .before .before .before .before .before .before .before .before .before .before .look-at .ensures) (c .before .before .before .before .before .before .before .before .before .before .before .row-fine .ensures) (c .before .before .before .before .before .before .before .before .before .is-shown .ensures) (c .before .before .before .before .higher .ensures .0) (omega arith) (c .before .parent .ensures) (c .known-now .ensures)))
+    (λ c. let c4 = c .before .before .before .before in
+    let c9 = c4 .before .before .before .before .before in
+    let c11 = c9 .before .before in
+    let c14 = c11 .before .before .before in
+    let c16 = c14 .before .before in
+    passed-more (rowsOf (now (c16 .args .words))) _ _ _ _ _ _ _ _ _ (c16 .pre .1) (c16 .pre .2) (c14 .look-at .ensures) (c11 .row-fine .ensures) (c9 .is-shown .ensures) (c4 .higher .ensures .0) (omega arith) (c .before .parent .ensures) (c .known-now .ensures)))

@@ -14,4 +14,9 @@ pass-start-spec =
     (λ c κs. search needs)
     (λ c κs. search needs)
     (λ c. search needs)
-    (λ c. passed-start (rowsOf (now (c .before .before .before .before .before .before .before .before .args .words))) _ _ _ _ _ (c .before .before .before .before .before .before .shown .ensures) (c .before .before .before .parent .ensures) (c .before .before .before .before .before .frame .ensures) (c .before .before .before .before .document .ensures)))
+    (λ c. let c3 = c .before .before .before in
+    let c4 = c3 .before in
+    let c5 = c4 .before in
+    let c6 = c5 .before in
+    let c8 = c6 .before .before in
+    passed-start (rowsOf (now (c8 .args .words))) _ _ _ _ _ (c6 .shown .ensures) (c3 .parent .ensures) (c5 .frame .ensures) (c4 .document .ensures)))

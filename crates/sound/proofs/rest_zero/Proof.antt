@@ -31,8 +31,12 @@ rest-zero-spec =
     (λ c. (omega arith, omega arith, omega arith, rest-starts (now (c .args .words)) _ (c .pre .0)))
     (λ c. search needs)
     (λ c. search needs)
-    (λ c. rest-stops (now (c .before .before .before .before .args .words)) _ (c .before .before .before .loop .inv .2) (omega arith) (c .if1 .taken))
+    (λ c. let c3 = c .before .before .before in
+    let c4 = c3 .before in
+    rest-stops (now (c4 .args .words)) _ (c3 .loop .inv .2) (omega arith) (c .if1 .taken))
     (λ c. search needs)
     (λ c. search needs)
-    (λ c. (omega arith, omega arith, omega arith, rest-more (now (c .before .before .before .before .args .words)) _ (c .before .before .before .loop .inv .3) (c .if1 .left)))
+    (λ c. let c3 = c .before .before .before in
+    let c4 = c3 .before in
+    (omega arith, omega arith, omega arith, rest-more (now (c4 .args .words)) _ (c3 .loop .inv .3) (c .if1 .left)))
     (λ c. rest-ends (now (c .before .before .args .words)) _ (c .before .loop .inv .3) (omega arith)))

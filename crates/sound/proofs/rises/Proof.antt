@@ -12,4 +12,7 @@ rises-spec =
     (λ c. search needs)
     (λ c κs. search needs)
     (λ c κs. search needs)
-    (λ c. rises-is (rowsOf (now (c .before .before .before .before .before .args .words))) _ _ _ (c .before .before .before .before .before .pre .1) (c .before .before .before .document .ensures) (c .before .before .document2 .ensures)))
+    (λ c. let c2 = c .before .before in
+    let c3 = c2 .before in
+    let c5 = c3 .before .before in
+    rises-is (rowsOf (now (c5 .args .words))) _ _ _ (c5 .pre .1) (c3 .document .ensures) (c2 .document2 .ensures)))

@@ -12,4 +12,8 @@ row-fine-spec =
     (λ c κs. search needs)
     (λ c κs. search needs)
     (λ c κs. search needs)
-    (λ c. fine-is (rowsOf (now (c .before .before .before .before .before .before .before .before .args .words))) _ _ _ _ _ _ _ (c .before .before .rises .ensures) (c .before .before .before .before .before .frame .ensures) (c .before .before .before .before .before .before .shown .ensures) (c .before .before .before .before .before .before .before .before .pre .2) (c .before .before .before .before .before .before .before .before .pre .3)))
+    (λ c. let c2 = c .before .before in
+    let c5 = c2 .before .before .before in
+    let c6 = c5 .before in
+    let c8 = c6 .before .before in
+    fine-is (rowsOf (now (c8 .args .words))) _ _ _ _ _ _ _ (c2 .rises .ensures) (c5 .frame .ensures) (c6 .shown .ensures) (c8 .pre .2) (c8 .pre .3)))

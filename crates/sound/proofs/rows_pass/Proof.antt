@@ -24,9 +24,13 @@ rows-pass-spec =
     μ-loop
     (λ c κs. search needs)
     (λ c. search needs)
-    (λ c. pass-stops (rowsOf (now (c .before .before .before .before .before .before .args .words))) _ _ _ _ (c .before .before .before .loop .inv .2) (omega arith) (c .before .before .before .before .before .before .pre .1) (not-true _ (c .if1 .taken)))
+    (λ c. let c3 = c .before .before .before in
+    let c6 = c3 .before .before .before in
+    pass-stops (rowsOf (now (c6 .args .words))) _ _ _ _ (c3 .loop .inv .2) (omega arith) (c6 .pre .1) (not-true _ (c .if1 .taken)))
     (λ c κs. (search needs, omega arith, c .before .before .before .loop .inv .2))
     (λ c. search needs)
     (λ c. search needs)
     (λ c. search needs)
-    (λ c. pass-ends (rowsOf (now (c .before .before .before .before .before .before .args .words))) _ _ _ _ (c .before .before .before .loop .inv .2) (omega arith) (omega arith) (c .before .before .before .before .before .before .pre .1)))
+    (λ c. let c3 = c .before .before .before in
+    let c6 = c3 .before .before .before in
+    pass-ends (rowsOf (now (c6 .args .words))) _ _ _ _ (c3 .loop .inv .2) (omega arith) (omega arith) (c6 .pre .1)))

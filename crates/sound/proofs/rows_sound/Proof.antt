@@ -13,7 +13,15 @@ rows-sound-spec =
     (λ c. search needs)
     (λ c κs. search needs)
     (λ c κs. search needs)
-    (λ c. quick-stops (rowsOf (now (c .before .before .before .before .before .before .args .words))) _ _ _ _ _ (c .before .before .before .before .document .ensures) (c .before .before .before .before .before .before .pre .1) (c .before .before .before .next-document .ensures) (not-true _ (c .if1 .taken)))
+    (λ c. let c3 = c .before .before .before in
+    let c4 = c3 .before in
+    let c6 = c4 .before .before in
+    quick-stops (rowsOf (now (c6 .args .words))) _ _ _ _ _ (c4 .document .ensures) (c6 .pre .1) (c3 .next-document .ensures) (not-true _ (c .if1 .taken)))
     (λ c κs. search needs)
     (λ c κs. search needs)
-    (λ c. quick-goes (rowsOf (now (c .before .before .before .before .before .before .before .before .args .words))) _ _ _ _ _ (c .before .before .before .before .before .before .document .ensures) (c .before .before .before .before .before .before .before .before .pre .1) (c .before .before .before .before .before .next-document .ensures) _ (not-false _ (c .before .before .if1 .left)) (rw (c .before .next-frame-number .ensures) at (c .rows-pass .ensures))))
+    (λ c. let c1 = c .before in
+    let c2 = c1 .before in
+    let c5 = c2 .before .before .before in
+    let c6 = c5 .before in
+    let c8 = c6 .before .before in
+    quick-goes (rowsOf (now (c8 .args .words))) _ _ _ _ _ (c6 .document .ensures) (c8 .pre .1) (c5 .next-document .ensures) _ (not-false _ (c2 .if1 .left)) (rw (c1 .next-frame-number .ensures) at (c .rows-pass .ensures))))
