@@ -10,7 +10,7 @@ use lib.Dec.{eqb}
 use lib.ListN.{length}
 use borrow.Author.Tests.{eqb-true, eqb-false, eq-eqb, ne-eqb}
 use Rattle.rules.specs.Rows.{Row, none, docAt, parentAt, isShown, isDoc, climb}
-use Rattle.rules.specs.Steps.{visibleAsk, visible}
+use Rattle.rules.specs.Steps.{visibleAsk, visibleAt, visible}
 use Rattle.rules.specs.Moves.{beneathAsk, gone}
 use Rattle.laws.proofs.Tests.{test, or-left, or-right, or-cases, below-cases}
 use Rattle.laws.proofs.Tree.{TreeOf, distinct}
@@ -66,10 +66,6 @@ module _ (q : ℕ → Bool) (rows : List Row) where
       ⊎-elim a (λ c. let r = climb-out (beneathAsk q rows) rows i (parentAt rows i) c in b (r .0) (r .1) (r .3) (r .2)) (or-cases (q i) _ g)
 
 -- VISIBLE
-
--- The document of row i is visible.
-unfoldable pub visibleAt : List Row → ℕ → Bool
-visibleAt rows i = visibleAsk rows (climb false (visibleAsk rows) rows i) i
 
 -- The two ways up: there is no parent, or an earlier row has it and passes.
 abbrev pub Up : List Row → (ℕ → Bool) → ℕ → Type 0

@@ -10,7 +10,7 @@ use lib.ListN.{length}
 use borrow.Author.Tests.{eqb-true, eqb-false, eq-eqb, ne-eqb}
 use Rattle.rules.specs.Below.{count}
 use Rattle.rules.specs.Rows.{Row, Table, none, rowAt, docAt, frameAt, parentAt, isShown, isDoc, place, marked}
-use Rattle.rules.specs.Steps.{same, isStep, upcoming, position, steps, visible}
+use Rattle.rules.specs.Steps.{same, isStep, upcoming, position, steps, visibleAt, visible}
 use Rattle.rules.specs.Moves.{opened, without, cleared, hide, navigated, show, forward}
 use Rattle.laws.proofs.Tests.{off, count-yes, count-same, count-in}
 use Rattle.laws.proofs.Frames.{step-in, step-out, next-shows, next-due}
@@ -19,7 +19,7 @@ use Rattle.laws.proofs.Central.{flagsAt, central, at-S6, at-S7, positio
 use Rattle.laws.proofs.Append.{step-agree, length-snoc, snoc-old, snoc-new, flags-append, append-at}
 use Rattle.laws.proofs.Kept.{kept-row, kept-length}
 use Rattle.laws.proofs.Tree.{TreeOf, distinct, proper, place-is, Alike, alike, tree-flags, tree-add}
-use Rattle.laws.proofs.Climb.{visibleAt, visible-out, sees-out}
+use Rattle.laws.proofs.Climb.{visible-out, sees-out}
 use Rattle.laws.proofs.Removal.{SoundRows, stays, Removed, cleared-removed, cleared-position, cleared-steps, visible-stays}
 
 pub tree-at : (p : ℕ) (rows : List Row) {a b : ℕ} → TreeOf rows a b → TreeOf (flagsAt p rows) a b

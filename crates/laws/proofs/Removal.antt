@@ -11,7 +11,7 @@ use lib.ListN.{length}
 use borrow.Author.Tests.{eqb-true, eq-eqb, not-true}
 use Rattle.rules.specs.Below.{count}
 use Rattle.rules.specs.Rows.{Row, Table, none, docAt, frameAt, parentAt, isShown}
-use Rattle.rules.specs.Steps.{isStep, reached, taken, upcoming, position, steps}
+use Rattle.rules.specs.Steps.{isStep, reached, taken, upcoming, position, steps, visibleAt}
 use Rattle.rules.specs.Moves.{gone, without, cleared}
 use Rattle.rules.specs.Sound.{S6, S7, SoundTable}
 use Rattle.laws.proofs.Tests.{test, clash, off, same-tests, count-same}
@@ -19,7 +19,7 @@ use Rattle.laws.proofs.Frames.{due, due-in, due-out, step-in, step-out,
 use Rattle.laws.proofs.Central.{flagsAt, reached-is, at-shown, at-doc, at-parent}
 use Rattle.laws.proofs.Kept.{kept, Whole, removed-steps, kept-fixed, kept-position, kept-falls, kept-S6, kept-S7}
 use Rattle.laws.proofs.Tree.{TreeOf, tree-of, distinct, proper, parent-earlier, tree-kept}
-use Rattle.laws.proofs.Climb.{gone-self, gone-child, gone-cases, visibleAt, visible-out}
+use Rattle.laws.proofs.Climb.{gone-self, gone-child, gone-cases, visible-out}
 
 -- What S2 to S7 say of the rows.
 pub record SoundRows (rows : List Row) (nextDoc nextFrame : ℕ) : Type 0 where

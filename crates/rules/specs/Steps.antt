@@ -44,5 +44,9 @@ steps rows = count (isStep rows) (length rows)
 abbrev pub visibleAsk : List Row → (ℕ → Bool) → ℕ → Bool
 visibleAsk rows up k = isShown rows k && (eqb (parentAt rows k) none || up (parentAt rows k))
 
+-- The question to row k, and to document d.
+unfoldable pub visibleAt : List Row → ℕ → Bool
+visibleAt rows k = visibleAsk rows (climb false (visibleAsk rows) rows k) k
+
 unfoldable pub visible : List Row → ℕ → Bool
 visible rows d = climb false (visibleAsk rows) rows (length rows) d

@@ -1,3 +1,4 @@
 pub mod Quick
 pub mod Passes
 pub mod Verdict
+pub mod Checks

@@ -5,6 +5,7 @@
 // each); on records that the calls build both stop near the row.
 use base::DocNo;
 use base::FrameNo;
+use base::Refusal;
 use base::RowPlace;
 use rows::Found;
 use rows::NONE;
@@ -20,6 +21,7 @@ ghost use Rattle.rows.specs.Held.{Within};
 ghost use Rattle.rows.specs.Tally.{Under};
 ghost use Rattle.sound.specs.Quick.{ordered, comes, rowFine, evenly, quick?};
 ghost use Rattle.sound.specs.Pass.{lookOf, Passed};
+ghost use Rattle.sound.specs.Check.{checkOf};
 
 // What a row is to the rows before it: a step, joined to the right parent, upcoming.
 pub struct Look {
@@ -205,4 +207,23 @@ pub fn sound(words: &[u32]) -> bool
         return false;
     }
     rest_zero(words, n, c)
+}
+
+// Whether a call may go on.
+pub enum Check {
+    Sound,
+    No(Refusal),
+}
+
+// Refusals 1 and 2, which nearly every call begins with.
+pub fn examine(words: &[u32]) -> Check
+    ensures { λ r. ⌜ r ≡ checkOf (now (words .entry)) ⌝ }
+{
+    if words.len() < 7 {
+        return Check::No(Refusal::ShortRecord);
+    }
+    if !sound(words) {
+        return Check::No(Refusal::Unsound);
+    }
+    Check::Sound
 }

@@ -1,0 +1,18 @@
+-- Refusals 1 and 2. Definitions.
+use Prim.Native.Nat.{ℕ}
+use mathlib.Core.Bool.{false, So, cond}
+use mathlib.Core.List.{List}
+use Rattle.base.specs.declared.Refusal.the-variants.{ShortRecord, Unsound}
+use mathlib.Core.Path.{_≡_}
+use Rattle.rules.specs.Sound.{sound?}
+use Rattle.rules.specs.Calls.{short, unsound}
+use Rattle.sound.specs.declared.Check.{Check}
+use Rattle.sound.specs.declared.Check.the-variants.{Sound, No}
+
+unfoldable pub checkOf : List ℕ → Check
+checkOf words = cond (short words) (No ShortRecord) (cond (unsound words) (No Unsound) Sound)
+
+-- Neither refusal holds.
+pub record Examined (words : List ℕ) : Type 0 where
+  pub long : short words ≡ false
+  pub passes : So (sound? words)
