@@ -1,5 +1,6 @@
-// The numbers that are kept apart, and the nine ways to say no.
+// The numbers that are kept apart, the nine ways to say no, and the magnitude of a signed amount.
 ghost use mathlib.Core.Path.{_≡_};
+ghost use lib.IntN.{natAbs};
 ghost use Rattle.base.specs.Numbers.{numberOf};
 
 // The number of a document.
@@ -47,5 +48,17 @@ pub fn refusal_number(refusal: Refusal) -> u32
         Refusal::Full => 7,
         Refusal::UsedUp => 8,
         Refusal::ShortBuffer => 9,
+    }
+}
+
+// The magnitude of an amount, taken in a wider type, so that the least number has one too.
+pub fn magnitude(delta: i32) -> usize
+    ensures { λ r. ⌜ r ≡ natAbs delta ⌝ }
+{
+    if delta < 0 {
+        let wide = delta as i64;
+        (0 - wide) as usize
+    } else {
+        delta as usize
     }
 }

@@ -1,0 +1,24 @@
+-- The paper's number and values for each case of an answer.
+use Prim.Native.Nat.{ℕ}
+use mathlib.Core.List.{[], _∷_}
+use Rattle.base.specs.Numbers.{numberOf}
+use Rattle.rules.specs.Calls.{Answer}
+use Rattle.asks.specs.declared.Standing.{Standing}
+use Rattle.asks.specs.declared.Standing.the-variants as Standings
+use Rattle.asks.specs.declared.Sight.{Sight}
+use Rattle.asks.specs.declared.Sight.the-variants as Sights
+use Rattle.asks.specs.declared.Stretched.{Stretched}
+use Rattle.asks.specs.declared.Stretched.the-variants as Stretches
+
+abbrev pub standingIs : Standing → Answer
+standingIs (Standings.At position steps length) = Answer.gives (position ∷ steps ∷ length ∷ [])
+standingIs (Standings.Refused r) = Answer.refuses (numberOf r)
+
+abbrev pub sightIs : Sight → Answer
+sightIs Sights.Visible = Answer.gives (1 ∷ [])
+sightIs Sights.Hidden = Answer.gives (0 ∷ [])
+sightIs (Sights.Refused r) = Answer.refuses (numberOf r)
+
+abbrev pub stretchIs : Stretched → Answer
+stretchIs (Stretches.Count n) = Answer.gives (n ∷ [])
+stretchIs (Stretches.Refused r) = Answer.refuses (numberOf r)

@@ -1,0 +1,135 @@
+// The questions: position, visible, lists, stretch.
+use base::DocNo;
+use base::FrameNo;
+use base::Refusal;
+use base::RowPlace;
+use rows::Found;
+use rows::NONE;
+use sound::Check;
+ghost use mathlib.Core.Path.{_≡_};
+ghost use mathlib.Core.List.{[], _∷_};
+ghost use Prim.Native.Nat.{_<_, _≤_};
+ghost use lib.ListN.{length};
+ghost use Rattle.rules.specs.Steps.{visibleAt};
+ghost use Rattle.rules.specs.Words.{rowsOf};
+ghost use Rattle.rules.specs.Asks.{ownList, stretched};
+ghost use Rattle.rules.specs.Calls.{Call, outcome};
+ghost use Rattle.rows.specs.Held.{Within};
+ghost use Rattle.sound.specs.Check.{Examined};
+ghost use Rattle.asks.specs.Answers.{standingIs, sightIs, stretchIs};
+
+// Where the window stands: position, steps, and the length for scripts.
+pub enum Standing {
+    At(usize, usize, usize),
+    Refused(Refusal),
+}
+
+// Position, steps and length of the record.
+pub fn position(words: &[u32]) -> Standing
+    ensures { λ r. ⌜ outcome (Call.Position (now (words .entry))) ≡ record { answer = standingIs r; lent = [] } ⌝ }
+{
+    match sound::examine(words) {
+        Check::No(r) => Standing::Refused(r),
+        Check::Sound => stand(words),
+    }
+}
+
+// Position, steps and length of a sound record.
+fn stand(words: &[u32]) -> Standing
+    requires { ⌜ Examined (now words) ⌝ }
+    ensures { λ r. ⌜ outcome (Call.Position (now (words .entry))) ≡ record { answer = standingIs r; lent = [] } ⌝ }
+{
+    let t = rows::count_steps(words);
+    Standing::At(t.position, t.steps, t.steps)
+}
+
+// Whether a document can be seen.
+pub enum Sight {
+    Visible,
+    Hidden,
+    Refused(Refusal),
+}
+
+// Whether a row's document and every document above it are shown: once it is itself, the question goes to its parent.
+pub fn climb(words: &[u32], at: RowPlace) -> bool
+    requires { ⌜ Within (now words) (at .0) ⌝ }
+    ensures { λ r. ⌜ r ≡ visibleAt (rowsOf (now (words .entry))) (at .0) ⌝ }
+{
+    if !rows::is_shown(words, at) {
+        return false;
+    }
+    let up = rows::parent(words, at);
+    if up.0 == NONE {
+        return true;
+    }
+    match rows::find_below(words, at, up) {
+        Found::At(above) => climb(words, above),
+        Found::Nothing => false,
+    }
+}
+
+// Whether a document of a sound record is visible.
+fn seen(words: &[u32], d: DocNo) -> Sight
+    requires { ⌜ Examined (now words) ⌝ }
+    ensures { λ r. ⌜ outcome (Call.Visible (now (words .entry)) (d .0)) ≡ record { answer = sightIs r; lent = [] } ⌝ }
+{
+    let n = rows::row_count(words);
+    match rows::find_below(words, RowPlace(n), d) {
+        Found::Nothing => Sight::Refused(Refusal::Absent),
+        Found::At(at) => {
+            if climb(words, at) {
+                Sight::Visible
+            } else {
+                Sight::Hidden
+            }
+        }
+    }
+}
+
+// Whether a document is visible.
+pub fn visible(words: &[u32], d: DocNo) -> Sight
+    ensures { λ r. ⌜ outcome (Call.Visible (now (words .entry)) (d .0)) ≡ record { answer = sightIs r; lent = [] } ⌝ }
+{
+    match sound::examine(words) {
+        Check::No(r) => Sight::Refused(r),
+        Check::Sound => seen(words, d),
+    }
+}
+
+// The list that the sign picks.
+fn own_list<'a>(taken: &'a [u32], upcoming: &'a [u32], delta: i32) -> &'a [u32]
+    ensures { λ r. ⌜ now r ≡ ownList (now (taken .entry)) (now (upcoming .entry)) delta ⌝ }
+{
+    if delta < 0 { taken } else { upcoming }
+}
+
+// The first entries of the caller's own list, as many as the magnitude of the amount; none where there are fewer.
+pub fn stretch<'a>(taken: &'a [u32], upcoming: &'a [u32], delta: i32) -> &'a [u32]
+    ensures { λ r. ⌜ now r ≡ stretched (now (taken .entry)) (now (upcoming .entry)) delta ⌝ }
+{
+    let n = base::magnitude(delta);
+    let list = own_list(taken, upcoming, delta);
+    if n <= list.len() {
+        &list[0..n]
+    } else {
+        &list[0..0]
+    }
+}
+
+// How many entries a stretch has.
+pub enum Stretched {
+    Count(usize),
+    Refused(Refusal),
+}
+
+// How many entries the stretch by an amount has.
+pub fn stretch_count<'a>(taken: &'a [u32], upcoming: &'a [u32], delta: i32) -> Stretched
+    ensures { λ r. ⌜ outcome (Call.StretchCount (now (taken .entry)) (now (upcoming .entry)) delta) ≡ record { answer = stretchIs r; lent = [] } ⌝ }
+{
+    let n = base::magnitude(delta);
+    let list = own_list(taken, upcoming, delta);
+    if list.len() < n {
+        return Stretched::Refused(Refusal::Beyond);
+    }
+    Stretched::Count(n)
+}
