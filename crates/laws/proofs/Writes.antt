@@ -1,11 +1,11 @@
 -- Runs of values put into a list: one after the other, one over another, far apart. No law asks that the places are in the list. Assumes nothing.
-use Prim.Native.Nat.{ℕ, zero, suc, _+_, _≤_, _<_}
+use Prim.Native.Nat.{ℕ, zero, suc, _+_, _-_, _≤_, _<_}
 use mathlib.Core.List.{List, [], _∷_, _++_}
 use mathlib.Core.Logic.{_≢_}
-use mathlib.Core.Path.{_≡_, refl, sym, ap, _∙_}
-use native.Mathlib.Nat.{suc-inj, suc-ne-zero}
+use mathlib.Core.Path.{_≡_, refl, sym, ap, subst, _∙_}
+use native.Mathlib.Nat.{suc-inj, suc-ne-zero, le-antisymm}
 use native.Mathlib.Omega.{arith}
-use lib.ListN.{length, getD, set, take, drop, replicate, List·getD-append, length-append}
+use lib.ListN.{length, getD, set, take, drop, replicate, List·getD-append, length-append, length-replicate}
 use lib.Seq.{sets, length-sets, set-set, set-comm, set-getD, sets-eq, length-take-le, getD-append-add, getD-set-other}
 use Rattle.rules.specs.Words.{put}
 
@@ -89,3 +89,40 @@ put-same (v ∷ vs) l i h =
     let e : i + 0 ≡ i = omega arith in
     let s : set l i v ≡ l = ap (set l i) (h 0 (omega arith) ∙ ap (λ j. getD l j 0) e) ∙ set-getD l i 0 in
     ap (λ t. sets t (suc i) vs) s ∙ put-same vs l (suc i) (λ k m. h (suc k) (omega arith) ∙ ap (λ j. getD l j 0) (omega arith))
+
+-- STORES
+
+-- Four in a row.
+pub put-four : (l : List ℕ) (i a b c d : ℕ) → set (set (set (set l i a) (i + 1) b) (i + 2) c) (i + 3) d ≡ put l i (a ∷ b ∷ c ∷ d ∷ [])
+unfolding put
+put-four l i a b c d =
+    let e : i + 1 ≡ suc i = omega arith in
+    let f : i + 2 ≡ suc (suc i) = omega arith in
+    let g : i + 3 ≡ suc (suc (suc i)) = omega arith in
+    rw (e, f, g)
+
+-- Zero after zero.
+zeros-snoc : (n v : ℕ) → replicate n v ++ (v ∷ []) ≡ replicate (suc n) v
+zeros-snoc zero v = refl
+zeros-snoc (suc n) v = ap (λ t. v ∷ t) (zeros-snoc n v)
+
+pub fill-none : (l : List ℕ) (i v : ℕ) → l ≡ put l i (replicate (i - i) v)
+fill-none l i v = let e : i - i ≡ 0 = omega arith in rw e (put-none l i)
+
+pub fill-more : (l m : List ℕ) (i k v : ℕ) → i ≤ k → m ≡ put l i (replicate (k - i) v) → set m k v ≡ put l i (replicate (k + 1 - i) v)
+fill-more l m i k v h e =
+    let n : k ≡ i + length (replicate (k - i) v) = rw length-replicate (omega arith) in
+    let s : k + 1 - i ≡ suc (k - i) = omega arith in
+    ap (λ t. set t k v) e ∙ put-one _ _ _ ∙ ap (λ j. put (put l i (replicate (k - i) v)) j (v ∷ [])) n ∙ put-put (replicate (k - i) v) (v ∷ []) l i ∙ rw (zeros-snoc, s)
+
+pub fill-done : (l m : List ℕ) (i k n v : ℕ) → k ≤ n → n ≤ k → m ≡ put l i (replicate (k - i) v) → m ≡ put l i (replicate (n - i) v)
+fill-done l m i k n v a b e = subst (λ j. m ≡ put l i (replicate (j - i) v)) (le-antisymm a b) e
+
+-- One before a run.
+pub put-before : (vs l : List ℕ) (i v : ℕ) → set (put l (suc i) vs) i v ≡ put l i (v ∷ vs)
+unfolding put
+put-before vs l i v = sym (set-far vs l i (suc i) v (omega arith))
+
+-- One after a run.
+pub put-after : (vs l : List ℕ) (i v : ℕ) → set (put l i vs) (i + length vs) v ≡ put l i (vs ++ v ∷ [])
+put-after vs l i v = put-one _ _ _ ∙ put-put vs (v ∷ []) l i
