@@ -52,15 +52,19 @@ module _ (rows : List Row) (k : ℕ) (s : Bool) (shown : s ≡ isShown rows k) w
     pub lost-ends : (f : Found) → (up ≡ none → ⊥) → f ≡ foundBelow (isDoc rows up) k → f ≡ Nothing → false ≡ visibleAt rows k
     lost-ends f ne e g = sym (climb-lost false (visibleAsk rows) rows k up (sym e ∙ g)) ∙ goes-up ne
 
--- A document of the record by its row.
-pub visible-at : (rows : List Row) (d : ℕ) (q : RowPlace) → foundBelow (isDoc rows d) (length rows) ≡ At q → visible rows d ≡ visibleAt rows (q .0)
-unfolding visible visibleAt
-visible-at rows d q e = climb-at false (visibleAsk rows) rows (length rows) d q e
+-- A document of the record, where the scan over all its rows ended.
+module _ (rows : List Row) (d n : ℕ) (f : Found) (all : n ≡ length rows) (scan : f ≡ foundBelow (isDoc rows d) n) where
+  scanned : f ≡ foundBelow (isDoc rows d) (length rows)
+  scanned = scan ∙ ap (foundBelow (isDoc rows d)) all
 
-pub record-has : (rows : List Row) (d : ℕ) (q : RowPlace) → foundBelow (isDoc rows d) (length rows) ≡ At q → inRecord rows d ≡ true
-unfolding inRecord
-record-has rows d q e = found-at (isDoc rows d) (length rows) q e .0
+  pub visible-at : (q : RowPlace) → f ≡ At q → visible rows d ≡ visibleAt rows (q .0)
+  unfolding visible visibleAt
+  visible-at q e = climb-at false (visibleAsk rows) rows (length rows) d q (sym scanned ∙ e)
 
-pub record-lacks : (rows : List Row) (d : ℕ) → foundBelow (isDoc rows d) (length rows) ≡ Nothing → inRecord rows d ≡ false
-unfolding inRecord
-record-lacks rows d e = found-nothing (isDoc rows d) (length rows) e
+  pub record-has : (q : RowPlace) → f ≡ At q → inRecord rows d ≡ true
+  unfolding inRecord
+  record-has q e = found-at (isDoc rows d) (length rows) q (sym scanned ∙ e) .0
+
+  pub record-lacks : f ≡ Nothing → inRecord rows d ≡ false
+  unfolding inRecord
+  record-lacks e = found-nothing (isDoc rows d) (length rows) (sym scanned ∙ e)
