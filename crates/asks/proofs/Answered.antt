@@ -1,8 +1,8 @@
 -- What each question answers, as an outcome. Assumes nothing.
-use Prim.Native.Nat.{ℕ, _≤_, _<_}
+use Prim.Native.Nat.{ℕ, _-_, _≤_, _<_}
 use mathlib.Core.Bool.{Bool, true, false}
 use mathlib.Core.List.{List, [], _∷_}
-use mathlib.Core.Path.{_≡_, refl}
+use mathlib.Core.Path.{_≡_, refl, sym, ap₂, _∙_}
 use native.Mathlib.Omega.{arith}
 use lib.IntN.{ℤ, pos, natAbs}
 use lib.ListN.{length, take}
@@ -14,8 +14,8 @@ use Rattle.base.specs.declared.Refusal.{Refusal}
 use Rattle.base.specs.Numbers.{numberOf}
 use Rattle.rules.specs.Rows.{inRecord, flag}
 use Rattle.rules.specs.Steps.{position, steps, visible}
-use Rattle.rules.specs.Words.{rowsOf}
-use Rattle.rules.specs.Asks.{ownList, stretched}
+use Rattle.rules.specs.Words.{put, rowsOf}
+use Rattle.rules.specs.Asks.{takenList, upcomingList, ownList, stretched}
 use Rattle.rules.specs.Calls.{Call, Answer, Outcome, refusals, accepted, ladder, outcome}
 use Rattle.laws.proofs.Calls.{outcome-refused}
 use Rattle.rows.specs.Held.{Before}
@@ -25,6 +25,7 @@ use Rattle.rows.proofs.Positions.{tallied-position, tallied-steps}
 use Rattle.sound.specs.Check.{checkOf, Examined}
 use Rattle.sound.specs.declared.Check.{Check}
 use Rattle.sound.specs.declared.Check.the-variants.{No}
+use Rattle.asks.proofs.Listing.{taken-length, upcoming-length}
 use Rattle.sound.proofs.Checks.{check-given, examined-long, examined-sound, examined-held}
 
 module _ (words : List ℕ) (k : Check) (r : Refusal) (e : k ≡ checkOf words) (f : k ≡ No r) where
@@ -85,3 +86,30 @@ module _ (takens upcomings : List ℕ) (δ : ℤ) where
     pub stretch-refused : length list < n → outcome (Call.StretchCount takens upcomings δ) ≡ record { answer = Answer.refuses 6; lent = [] }
     unfolding outcome refusals accepted ladder
     stretch-refused l = rw (lt-ltb (length (ownList takens upcomings δ)) (natAbs δ) (rw (own, far) at l)) refl
+
+-- LISTS
+
+pub lists-refused : (words takens upcomings : List ℕ) (k : Check) (r : Refusal) → k ≡ checkOf words → k ≡ No r →
+    outcome (Call.Lists words takens upcomings) ≡ record { answer = Answer.refuses (numberOf r); lent = takens ∷ upcomings ∷ [] }
+unfolding refusals
+lists-refused words takens upcomings k r e f = outcome-refused (Call.Lists words takens upcomings) (numberOf r) (check-given words _ k r e f)
+
+module _ (words : List ℕ) (e : Examined words) (takens upcomings : List ℕ) (p s : ℕ) (here : p ≡ position (rowsOf words)) (all : s ≡ steps (rowsOf words)) where
+  taken-count : length (takenList (rowsOf words)) ≡ p
+  taken-count = let h = examined-sound words e .table in taken-length (rowsOf words) (h .s6) (h .s7) ∙ sym here
+
+  upcoming-count : length (upcomingList (rowsOf words)) ≡ s - p
+  upcoming-count = let h = examined-sound words e .table in upcoming-length (rowsOf words) (h .s6) (h .s7) ∙ ap₂ _-_ (sym all) (sym here)
+
+  pub lists-short-first : length takens < p → outcome (Call.Lists words takens upcomings) ≡ record { answer = Answer.refuses 9; lent = takens ∷ upcomings ∷ [] }
+  unfolding outcome refusals accepted ladder
+  lists-short-first l = rw (e .long, e .passes, taken-count, lt-ltb _ _ l) refl
+
+  pub lists-short-second : p ≤ length takens → length upcomings < s - p → outcome (Call.Lists words takens upcomings) ≡ record { answer = Answer.refuses 9; lent = takens ∷ upcomings ∷ [] }
+  unfolding outcome refusals accepted ladder
+  lists-short-second m l = rw (e .long, e .passes, taken-count, upcoming-count, le-ltb _ _ m, lt-ltb _ _ l) refl
+
+  pub lists-given : (ts us : List ℕ) → p ≤ length takens → s - p ≤ length upcomings → ts ≡ put takens 0 (takenList (rowsOf words)) → us ≡ put upcomings 0 (upcomingList (rowsOf words)) →
+      outcome (Call.Lists words takens upcomings) ≡ record { answer = Answer.gives (p ∷ (s - p) ∷ []); lent = ts ∷ us ∷ [] }
+  unfolding outcome refusals accepted ladder
+  lists-given ts us m l a b = rw (e .long, e .passes, a, b, taken-count, upcoming-count, le-ltb _ _ m, le-ltb _ _ l) refl

@@ -9,6 +9,8 @@ use Rattle.asks.specs.declared.Sight.{Sight}
 use Rattle.asks.specs.declared.Sight.the-variants as Sights
 use Rattle.asks.specs.declared.Stretched.{Stretched}
 use Rattle.asks.specs.declared.Stretched.the-variants as Stretches
+use Rattle.asks.specs.declared.Listed.{Listed}
+use Rattle.asks.specs.declared.Listed.the-variants as Lists
 
 abbrev pub standingIs : Standing → Answer
 standingIs (Standings.At position steps length) = Answer.gives (position ∷ steps ∷ length ∷ [])
@@ -22,3 +24,7 @@ sightIs (Sights.Refused r) = Answer.refuses (numberOf r)
 abbrev pub stretchIs : Stretched → Answer
 stretchIs (Stretches.Count n) = Answer.gives (n ∷ [])
 stretchIs (Stretches.Refused r) = Answer.refuses (numberOf r)
+
+abbrev pub listedIs : Listed → Answer
+listedIs (Lists.Counts taken upcoming) = Answer.gives (taken ∷ upcoming ∷ [])
+listedIs (Lists.Refused r) = Answer.refuses (numberOf r)

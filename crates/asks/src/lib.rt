@@ -10,13 +10,14 @@ ghost use mathlib.Core.Path.{_≡_};
 ghost use mathlib.Core.List.{[], _∷_};
 ghost use Prim.Native.Nat.{_<_, _≤_};
 ghost use lib.ListN.{length};
-ghost use Rattle.rules.specs.Steps.{visibleAt};
-ghost use Rattle.rules.specs.Words.{rowsOf};
-ghost use Rattle.rules.specs.Asks.{ownList, stretched};
+ghost use Rattle.rules.specs.Steps.{visibleAt, position as positionOf};
+ghost use Rattle.rules.specs.Words.{put, rowsOf};
+ghost use Rattle.rules.specs.Asks.{takenList, upcomingList, ownList, stretched};
 ghost use Rattle.rules.specs.Calls.{Call, outcome};
 ghost use Rattle.rows.specs.Held.{Within};
 ghost use Rattle.sound.specs.Check.{Examined};
-ghost use Rattle.asks.specs.Answers.{standingIs, sightIs, stretchIs};
+ghost use Rattle.asks.specs.Answers.{standingIs, sightIs, stretchIs, listedIs};
+ghost use Rattle.asks.specs.Listing.{takenWith, upcomingWith};
 
 // Where the window stands: position, steps, and the length for scripts.
 pub enum Standing {
@@ -132,4 +133,86 @@ pub fn stretch_count<'a>(taken: &'a [u32], upcoming: &'a [u32], delta: i32) -> S
         return Stretched::Refused(Refusal::Beyond);
     }
     Stretched::Count(n)
+}
+
+// How many steps are taken, and how many upcoming.
+pub enum Listed {
+    Counts(usize, usize),
+    Refused(Refusal),
+}
+
+// Stores a step's document: the m-th step is taken where m is below the position, else upcoming.
+fn list_step(
+    step: bool,
+    d: DocNo,
+    m: usize,
+    position: usize,
+    taken: &mut [u32],
+    upcoming: &mut [u32],
+)
+    ensures takens { λ _. ⌜ now (taken .exit) ≡ takenWith step m position (d .0) (now (taken .entry)) ⌝ }
+    ensures upcomings { λ _. ⌜ now (upcoming .exit) ≡ upcomingWith step m position (d .0) (now (upcoming .entry)) ⌝ }
+{
+    if step {
+        if m < position {
+            writes::store(taken, position - 1 - m, d.0);
+        } else {
+            writes::store(upcoming, m - position, d.0);
+        }
+    }
+}
+
+// Fills both lists from the rows of a sound record.
+fn fill_lists(words: &[u32], position: usize, taken: &mut [u32], upcoming: &mut [u32])
+    requires { ⌜ Examined (now words) × (position ≡ positionOf (rowsOf (now words))) ⌝ }
+    ensures takens { λ _. ⌜ now (taken .exit) ≡ put (now (taken .entry)) 0 (takenList (rowsOf (now (words .entry)))) ⌝ }
+    ensures upcomings { λ _. ⌜ now (upcoming .exit) ≡ put (now (upcoming .entry)) 0 (upcomingList (rowsOf (now (words .entry)))) ⌝ }
+{
+    let n = rows::row_count(words);
+    let mut m = 0;
+    let mut high = FrameNo(0);
+    let mut i = 0;
+    while i < n {
+        let at = RowPlace(i);
+        let step = rows::is_step(words, at, high);
+        list_step(
+            step,
+            rows::document(words, at),
+            m,
+            position,
+            taken,
+            upcoming,
+        );
+        high = rows::higher(high, rows::frame(words, at));
+        m += step as usize;
+        i += 1;
+    }
+}
+
+// Taken and upcoming steps of a sound record.
+fn list(words: &[u32], taken: &mut [u32], upcoming: &mut [u32]) -> Listed
+    requires { ⌜ Examined (now words) ⌝ }
+    ensures { λ r. ⌜ outcome (Call.Lists (now (words .entry)) (now (taken .entry)) (now (upcoming .entry))) ≡ record { answer = listedIs r; lent = now (taken .exit) ∷ now (upcoming .exit) ∷ [] } ⌝ }
+{
+    let t = rows::count_steps(words);
+    let position = t.position;
+    let ahead = t.steps - position;
+    if taken.len() < position {
+        return Listed::Refused(Refusal::ShortBuffer);
+    }
+    if upcoming.len() < ahead {
+        return Listed::Refused(Refusal::ShortBuffer);
+    }
+    fill_lists(words, position, taken, upcoming);
+    Listed::Counts(position, ahead)
+}
+
+// Taken steps, latest first, and upcoming steps, earliest first.
+pub fn lists(words: &[u32], taken: &mut [u32], upcoming: &mut [u32]) -> Listed
+    ensures { λ r. ⌜ outcome (Call.Lists (now (words .entry)) (now (taken .entry)) (now (upcoming .entry))) ≡ record { answer = listedIs r; lent = now (taken .exit) ∷ now (upcoming .exit) ∷ [] } ⌝ }
+{
+    match sound::examine(words) {
+        Check::No(r) => Listed::Refused(r),
+        Check::Sound => list(words, taken, upcoming),
+    }
 }

@@ -5,7 +5,7 @@ use base::RowPlace;
 ghost use mathlib.Core.Path.{_≡_};
 ghost use mathlib.Core.List.{[], _∷_};
 ghost use Prim.Native.Nat.{_+_, _-_, _*_, _<_, _≤_};
-ghost use lib.ListN.{length, replicate};
+ghost use lib.ListN.{length, replicate, set};
 ghost use Rattle.rules.specs.Words.{capacity, put};
 
 // Writes a row.
@@ -50,5 +50,14 @@ pub fn clear(words: &mut [u32], from: usize, to: usize)
     while k < to {
         words[k] = 0;
         k += 1;
+    }
+}
+
+// Stores a value at a place, where there is one.
+pub fn store(list: &mut [u32], k: usize, v: u32)
+    ensures { λ _. ⌜ now (list .exit) ≡ set (now (list .entry)) k v ⌝ }
+{
+    if k < list.len() {
+        list[k] = v;
     }
 }
