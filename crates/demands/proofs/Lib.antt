@@ -1,3 +1,25 @@
--- What the customer buys, as theorems over the definitions of `rules`.
+-- What the customer buys, as theorems over the definitions of `rules`. The ends of the lines of thought: `p1-to-p12`, `determined`, `standing`,
+-- `demand1`, `demand2`, `noted` and `demand3`, `traverse-traverse`, and of the readings that look right `back-does-not-restore`,
+-- `back-restores-visible`, `own-future-not-enough`.
 pub mod Examples
 pub mod Determined
+pub mod Demand1
+pub mod Accepted
+pub mod Held
+pub mod Wide
+pub mod Standing
+pub mod Seen
+pub mod Steady
+pub mod Demand3
+pub mod Fundamental
+pub mod Histories
+pub mod Places
+pub mod Traverses
+pub mod Shape
+pub mod Active
+pub mod Deleted
+pub mod Navigates
+pub mod Demand2
+pub mod Readings
+pub mod Return
+pub mod Saving

@@ -4,18 +4,8 @@ use mathlib.Core.List.{List, [], _∷_}
 use mathlib.Core.Logic.{_↔_, _⊎_, inl, inr, ⊎-elim}
 use mathlib.Core.Bool.{Bool, true, false, So, false≢true, true≢false}
 use mathlib.Core.Path.{_≡_, refl, sym, ap, subst, _∙_}
-use Rattle.rules.specs.Calls.{Call, Answer, Outcome, Rung, lentTo, refusals, accepted, ladder, outcome}
+use Rattle.rules.specs.Calls.{Call, Answer, Outcome, Rung, lentTo, refusals, accepted, ladder, outcome, Given, NoneGiven}
 use Rattle.laws.proofs.Tests.{test}
-
--- Number k is given: its rung holds and no rung before it does.
-unfoldable pub Given : ℕ → List Rung → Type 0
-Given k [] = ⊥
-Given k (r ∷ rungs) = (So (r .holds) × (r .number ≡ k)) ⊎ ((r .holds ≡ false) × Given k rungs)
-
--- No rung holds.
-unfoldable pub NoneGiven : List Rung → Type 0
-NoneGiven [] = Unit {0}
-NoneGiven (r ∷ rungs) = (r .holds ≡ false) × NoneGiven rungs
 
 abbrev numberIn : Answer → ℕ
 numberIn (Answer.refuses k) = k

@@ -14,3 +14,8 @@ pub mod Writes
 pub mod Words
 pub mod Loops
 pub mod Calls
+pub mod Pieces
+pub mod Numbers
+pub mod Told
+pub mod Trips
+pub mod Loads

@@ -1,7 +1,9 @@
 -- The calls: what is lent to each, when each is refused, and what it answers and leaves otherwise.
 use Prim.Native.Nat.{ℕ, suc, _/_}
-use mathlib.Core.Bool.{Bool, true, false, not, _||_, cond}
+use mathlib.Core.Bool.{Bool, true, false, not, _||_, So, cond}
 use mathlib.Core.List.{List, [], _∷_}
+use mathlib.Core.Logic.{_⊎_}
+use mathlib.Core.Path.{_≡_}
 use lib.Dec.{eqb, leb, ltb}
 use lib.IntN.{ℤ, pos, negsuc, _+ℤ_, natAbs}
 use lib.ListN.{length}
@@ -152,3 +154,13 @@ ladder (r ∷ rungs) lent done =
 
 unfoldable pub outcome : Call → Outcome
 outcome c = ladder (refusals c) (lentTo c) (accepted c)
+
+-- Number k is given: its rung holds and no rung before it does.
+unfoldable pub Given : ℕ → List Rung → Type 0
+Given k [] = ⊥
+Given k (r ∷ rungs) = (So (r .holds) × (r .number ≡ k)) ⊎ ((r .holds ≡ false) × Given k rungs)
+
+-- No rung holds.
+unfoldable pub NoneGiven : List Rung → Type 0
+NoneGiven [] = Unit {0}
+NoneGiven (r ∷ rungs) = (r .holds ≡ false) × NoneGiven rungs

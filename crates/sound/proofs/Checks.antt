@@ -12,10 +12,9 @@ use Rattle.base.specs.declared.Refusal.the-variants.{ShortRecord, Unsound}
 use Rattle.base.specs.Numbers.{numberOf}
 use Rattle.rules.specs.Words.{capacity, rowsOf}
 use Rattle.rules.specs.Sound.{Sound, sound?}
-use Rattle.rules.specs.Calls.{Rung, _when_, short, unsound}
+use Rattle.rules.specs.Calls.{Rung, _when_, short, unsound, Given}
 use Rattle.laws.proofs.Tests.{test}
 use Rattle.laws.proofs.Reflect.{sound-is}
-use Rattle.laws.proofs.Calls.{Given}
 use Rattle.sound.specs.Check.{checkOf, Examined}
 use Rattle.sound.specs.declared.Check.{Check}
 use Rattle.sound.specs.declared.Check.the-variants.{Sound as Fine, No}

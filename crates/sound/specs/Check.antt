@@ -5,7 +5,8 @@ use mathlib.Core.List.{List}
 use Rattle.base.specs.declared.Refusal.the-variants.{ShortRecord, Unsound}
 use mathlib.Core.Path.{_≡_}
 use Rattle.rules.specs.Sound.{sound?}
-use Rattle.rules.specs.Calls.{short, unsound}
+use Rattle.base.specs.Numbers.{numberOf}
+use Rattle.rules.specs.Calls.{Call, short, unsound, refusals, Given, NoneGiven}
 use Rattle.sound.specs.declared.Check.{Check}
 use Rattle.sound.specs.declared.Check.the-variants.{Sound, No}
 
@@ -16,3 +17,8 @@ checkOf words = cond (short words) (No ShortRecord) (cond (unsound words) (No Un
 pub record Examined (words : List ℕ) : Type 0 where
   pub long : short words ≡ false
   pub passes : So (sound? words)
+
+-- What a judge of a call says: no refusal of the table is given, or this one is.
+abbrev pub Judged : Call → Check → Type 0
+Judged c Sound = NoneGiven (refusals c)
+Judged c (No r) = Given (numberOf r) (refusals c)

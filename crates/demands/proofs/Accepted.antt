@@ -1,0 +1,120 @@
+-- What an accepted move may rely on, and the table that it leaves. Assumes nothing.
+use Prim.Native.Nat.{ℕ, _≤_, _<_}
+use mathlib.Core.List.{List, []}
+use mathlib.Core.Logic.{_≢_}
+use mathlib.Core.Bool.{Bool, true, false, not, _||_, So}
+use mathlib.Core.Path.{_≡_, refl, sym, ap, _∙_}
+use native.Mathlib.Omega.{arith}
+use lib.IntN.{ℤ, pos, _+ℤ_}
+use lib.ListN.{length, getD}
+use borrow.Author.Tests.{ltb-false, leb-false, eqb-false, le-ltb, not-false}
+use Rattle.rules.specs.Rows.{Table, none}
+use Rattle.rules.specs.Steps.{position, steps, visible}
+use Rattle.rules.specs.Moves.{opened, cleared, navigated, traversed, changes}
+use Rattle.rules.specs.Words.{capacity, tableOf, rowsOf, written}
+use Rattle.rules.specs.Sound.{Sound}
+use Rattle.rules.specs.Calls.{Call, Answer, outside, refusals, accepted, outcome, Given, NoneGiven}
+use Rattle.rules.specs.Runs.{Move, on, after}
+use Rattle.laws.proofs.Tests.{clash}
+use Rattle.laws.proofs.Reflect.{sound-is}
+use Rattle.laws.proofs.Calls.{by-ladder, accepted-gives, outcome-accepted, outcome-refused}
+use Rattle.demands.specs.Record.{Accepted}
+
+either : (a b : Bool) → (a || b) ≡ false → (a ≡ false) × (b ≡ false)
+either true b e = absurd (clash refl e)
+either false b e = (refl, e)
+
+by-answer : (a : Answer) → ((k : ℕ) → a ≡ Answer.refuses k → ⊥) → (values : List ℕ) × (a ≡ Answer.gives values)
+by-answer (Answer.refuses k) h = absurd (h k refl)
+by-answer (Answer.gives values) h = (values, refl)
+
+-- A call is accepted when no rung of its ladder holds.
+pub accepted-none : (c : Call) → Accepted c → NoneGiven (refusals c)
+accepted-none c a =
+    by-ladder (refusals c) (λ h. h) (λ k g. absurd (apart k (a .0) (ap (λ o. o .answer) (sym (outcome-refused c k g)) ∙ a .1)))
+  where
+    apart : (k : ℕ) (values : List ℕ) → Answer.refuses k ≡ Answer.gives values → ⊥
+    apart k values e = let z : _≡_ {A = ℕ} 0 1 = cc in omega arith
+
+pub none-accepted : (c : Call) → NoneGiven (refusals c) → Accepted c
+none-accepted c h = by-answer (outcome c .answer) (λ k e. accepted-gives c k (ap (λ o. o .answer) (sym (outcome-accepted c h)) ∙ e))
+
+-- What each call relies on when it is accepted.
+pub record Opens (words : List ℕ) (p : ℕ) : Type 0 where
+  pub sound : Sound words
+  pub seen : So (visible (rowsOf words) p)
+  pub roomy : length (rowsOf words) < capacity words
+  pub doc : tableOf words .nextDoc ≢ none
+  pub frame : tableOf words .nextFrame ≢ none
+
+pub open-relies : (words : List ℕ) (p : ℕ) → NoneGiven (refusals (Call.Open words p)) → Opens words p
+unfolding refusals NoneGiven
+open-relies words p h =
+    let f = either _ _ (h .1 .1 .1 .1 .1 .0) in
+    record {
+      sound = sound-is words .0 (not-false _ (h .1 .0));
+      seen = not-false _ (h .1 .1 .1 .0);
+      roomy = leb-false _ _ (h .1 .1 .1 .1 .0);
+      doc = eqb-false _ _ (f .0);
+      frame = eqb-false _ _ (f .1);
+    }
+
+pub record Navigates (words : List ℕ) (d : ℕ) : Type 0 where
+  pub sound : Sound words
+  pub seen : So (visible (rowsOf words) d)
+  pub roomy : length (cleared (rowsOf words)) < capacity words
+  pub doc : tableOf words .nextDoc ≢ none
+
+pub navigate-relies : (words : List ℕ) (d : ℕ) → NoneGiven (refusals (Call.Navigate words d)) → Navigates words d
+unfolding refusals NoneGiven
+navigate-relies words d h =
+    record {
+      sound = sound-is words .0 (not-false _ (h .1 .0));
+      seen = not-false _ (h .1 .1 .1 .0);
+      roomy = leb-false _ _ (h .1 .1 .1 .1 .0);
+      doc = eqb-false _ _ (h .1 .1 .1 .1 .1 .0);
+    }
+
+pub record Goes (words : List ℕ) (δ : ℤ) (room : List ℕ) : Type 0 where
+  pub long : 7 ≤ length words
+  pub sound : Sound words
+  pub inside : outside (steps (rowsOf words)) (pos (position (rowsOf words)) +ℤ δ) ≡ false
+  pub lent : length (changes (tableOf words) δ) ≤ length room
+
+module _ (words : List ℕ) (δ : ℤ) (room : List ℕ) where
+  pub go-relies : NoneGiven (refusals (Call.Traverse words δ room)) → Goes words δ room
+  unfolding refusals NoneGiven
+  go-relies h =
+      record {
+        long = ltb-false _ _ (h .0);
+        sound = sound-is words .0 (not-false _ (h .1 .0));
+        inside = h .1 .1 .0;
+        lent = ltb-false _ _ (h .1 .1 .1 .0);
+      }
+
+  pub go-accepted : Goes words δ room → NoneGiven (refusals (Call.Traverse words δ room))
+  unfolding refusals NoneGiven
+  go-accepted g = (le-ltb _ _ (g .long), (ap not (sound-is words .1 (g .sound)), (g .inside, (le-ltb _ _ (g .lent), tt))))
+
+-- The table that an accepted move leaves.
+abbrev pub made : Table → Move → Table
+made t (Move.opens p) = opened t p
+made t (Move.navigates d) = navigated t d
+made t (Move.goes δ room) = traversed t δ
+
+pub accepted-after : (words : List ℕ) (m : Move) → NoneGiven (refusals (on words m)) → after words m ≡ written words (made (tableOf words) m)
+unfolding accepted
+accepted-after words (Move.opens p) h = ap (λ o. getD (o .lent) 0 []) (outcome-accepted _ h)
+accepted-after words (Move.navigates d) h = ap (λ o. getD (o .lent) 0 []) (outcome-accepted _ h)
+accepted-after words (Move.goes δ room) h = ap (λ o. getD (o .lent) 0 []) (outcome-accepted _ h)
+
+pub refused-after : (words : List ℕ) (m : Move) (k : ℕ) → Given k (refusals (on words m)) → after words m ≡ words
+refused-after words (Move.opens p) k g = ap (λ o. getD (o .lent) 0 []) (outcome-refused _ k g)
+refused-after words (Move.navigates d) k g = ap (λ o. getD (o .lent) 0 []) (outcome-refused _ k g)
+refused-after words (Move.goes δ room) k g = ap (λ o. getD (o .lent) 0 []) (outcome-refused _ k g)
+
+-- By whether a move is accepted.
+pub by-move {ℓ} : {C : Type ℓ} (words : List ℕ) (m : Move) →
+    (NoneGiven (refusals (on words m)) → after words m ≡ written words (made (tableOf words) m) → C) → (after words m ≡ words → C) → C
+by-move words m f g =
+    by-ladder (refusals (on words m)) (λ h. f h (accepted-after words m h)) (λ k h. g (refused-after words m k h))

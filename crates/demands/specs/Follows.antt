@@ -1,0 +1,65 @@
+-- Demand 2: "Navigating and traversing give the record that the fully patched model of source document 001 gives, with the readings that
+-- document 01 settles."
+use Prim.Native.Nat.{ℕ, _≤_, _<_}
+use mathlib.Core.List.{List}
+use mathlib.Core.Logic.{_↔_}
+use mathlib.Core.Bool.{Bool, So}
+use mathlib.Core.Path.{_≡_}
+use lib.IntN.{ℤ, _+ℤ_}
+use lib.ListN.{length}
+use Rattle.rules.specs.Rows.{Row, docAt, frameAt, parentAt, isShown}
+use Rattle.rules.specs.Steps.{upcoming, visible}
+use Rattle.rules.specs.Words.{tableOf, rowsOf}
+use Rattle.rules.specs.Sound.{Sound}
+use Rattle.rules.specs.Calls.{Answer, outcome}
+use Rattle.rules.specs.Runs.{Move, on, after}
+use Rattle.demands.specs.Record.{Words32, Accepted}
+use Rattle.demands.specs.Model.{History, IsHistory, Root, FA, JointFuture, navigating, Same, Traverses, WellFormed}
+
+-- n places with their documents, frames, parents and marks, as a history: "Row order is chronological order." "A frame is the source's session,
+-- shown its active."
+abbrev pub ofPlaces : ℕ → (ℕ → ℕ) → (ℕ → ℕ) → (ℕ → ℕ) → (ℕ → Bool) → History
+ofPlaces n doc frame parent shown =
+    record {
+      D = λ d. (i : ℕ) × (i < n) × (doc i ≡ d);
+      A = λ d. (i : ℕ) × (i < n) × (doc i ≡ d) × So (shown i);
+      child = λ d e. ((i : ℕ) × (i < n) × (doc i ≡ d)) × ((j : ℕ) × (j < n) × (doc j ≡ e) × (parent j ≡ d));
+      le = λ d e. (i : ℕ) × (j : ℕ) × (i ≤ j) × (j < n) × (doc i ≡ d) × (doc j ≡ e);
+      sim = λ d e. (i : ℕ) × (j : ℕ) × (i < n) × (j < n) × (doc i ≡ d) × (doc j ≡ e) × (frame i ≡ frame j);
+    }
+
+-- The history of rows, and of a record's words.
+abbrev pub ofRows : List Row → History
+ofRows rows = ofPlaces (length rows) (docAt rows) (frameAt rows) (parentAt rows) (isShown rows)
+
+abbrev pub historyOf : List ℕ → History
+historyOf words = ofRows (rowsOf words)
+
+pub record FollowsModel (words : List ℕ) : Type 1 where
+  -- A sound record is a navigation history (001, definition 1), and "well formed" (001, definition 5; document 01, S7).
+  pub is-history : IsHistory (historyOf words)
+  pub well-formed : WellFormed (historyOf words)
+  -- "d₀ is the unique active root document" (001, below definition 1)
+  pub one-root : (r : ℕ) × Root (historyOf words) r × historyOf words .A r × ((e : ℕ) → Root (historyOf words) e → historyOf words .A e → e ≡ r)
+  -- "A document is visible (fully active) [..]"
+  pub visible-is : (d : ℕ) → So (visible (rowsOf words) d) ↔ FA (historyOf words) d
+  -- "The upcoming steps are the joint session future of patch 2."
+  pub upcoming-is : (d : ℕ) → ((i : ℕ) × (i < length (rowsOf words)) × (docAt (rowsOf words) i ≡ d) × So (upcoming (rowsOf words) i)) ↔ JointFuture (historyOf words) d
+  -- An accepted Navigate from d is "navigating from d to d' in H, where d ∈ FA" and d' ∉ D is the next document number.
+  pub navigate : (d : ℕ) → Accepted (on words (Move.navigates d)) →
+      FA (historyOf words) d × (historyOf words .D (tableOf words .nextDoc) → ⊥)
+      × Same (navigating (historyOf words) d (tableOf words .nextDoc)) (historyOf (after words (Move.navigates d)))
+  -- An accepted Traverse by δ: "H traverses the history by δ to H'", and to no other history.
+  pub traverse : (δ : ℤ) (room : List ℕ) → Accepted (on words (Move.goes δ room)) →
+      (K : History) → Traverses δ (historyOf words) K ↔ Same (historyOf (after words (Move.goes δ room))) K
+  -- "Theorem 1: [..] if H traverses the history by δ to H' and H' traverses the history by δ' to H'' then H traverses the history by δ + δ' to H''."
+  pub theorem-1 : (δ δ' : ℤ) (K L : History) → Traverses δ (historyOf words) K → Traverses δ' K L → Traverses (δ +ℤ δ') (historyOf words) L
+  -- What is refused by 4, 5 or 6 has no result in the model.
+  pub absent : (d : ℕ) → outcome (on words (Move.navigates d)) .answer ≡ Answer.refuses 4 → historyOf words .D d → ⊥
+  pub hidden : (d : ℕ) → outcome (on words (Move.navigates d)) .answer ≡ Answer.refuses 5 → FA (historyOf words) d → ⊥
+  pub beyond : (δ : ℤ) (room : List ℕ) → outcome (on words (Move.goes δ room)) .answer ≡ Answer.refuses 6 →
+      (K : History) → Traverses δ (historyOf words) K → ⊥
+
+-- Every sound record of 32-bit words.
+abbrev pub Demand2 : Type 1
+Demand2 = (words : List ℕ) → Words32 words → Sound words → FollowsModel words

@@ -1,0 +1,116 @@
+-- Demand 1: "It refuses only by the nine refusals of document 01, exactly when that document says, and then each lent word and byte reads as
+-- before."
+use Prim.Native.Nat.{ℕ, _≤_, _<_}
+use mathlib.Core.List.{List, [], _∷_}
+use mathlib.Core.Logic.{_↔_, _⊎_}
+use mathlib.Core.Bool.{false}
+use mathlib.Core.Path.{_≡_}
+use lib.IntN.{ℤ, pos, negsuc, _+ℤ_, natAbs}
+use lib.ListN.{length}
+use Rattle.rules.specs.Rows.{Row, none, docAt}
+use Rattle.rules.specs.Steps.{position, steps, visible}
+use Rattle.rules.specs.Moves.{cleared, changes}
+use Rattle.rules.specs.Words.{capacity, tableOf, rowsOf}
+use Rattle.rules.specs.Sound.{Sound}
+use Rattle.rules.specs.Asks.{takenList, upcomingList, ownList, outlineOf}
+use Rattle.rules.specs.Saved.{saved, loaded, fromSave?}
+use Rattle.rules.specs.Calls.{Call, Answer, lentTo, outcome}
+
+-- "1: record under 7 words"
+abbrev pub Short : List ℕ → Type 0
+Short words = length words < 7
+
+-- "2: record unsound"
+abbrev pub Unsound : List ℕ → Type 0
+Unsound words = Sound words → ⊥
+
+-- "3: saved bytes are not such bytes"
+abbrev pub NotSaved : List ℕ → Type 0
+NotSaved bytes = fromSave? bytes ≡ false
+
+-- The document of row i is d.
+abbrev pub StandsAt : List ℕ → ℕ → ℕ → Type 0
+StandsAt words d i = (i < length (rowsOf words)) × (docAt (rowsOf words) i ≡ d)
+
+-- "4: document not in the record"
+abbrev pub Absent : List ℕ → ℕ → Type 0
+Absent words d = (i : ℕ) → StandsAt words d i → ⊥
+
+-- "5: document there, not visible"
+abbrev pub Hidden : List ℕ → ℕ → Type 0
+Hidden words d = ((i : ℕ) × StandsAt words d i) × (visible (rowsOf words) d ≡ false)
+
+-- "6: position + δ below 0 or above steps"
+abbrev pub Outside : ℕ → ℤ → Type 0
+Outside n (pos q) = n < q
+Outside n (negsuc q) = Unit {0}
+
+abbrev pub Beyond : List ℕ → ℤ → Type 0
+Beyond words δ = Outside (steps (rowsOf words)) (pos (position (rowsOf words)) +ℤ δ)
+
+-- "Stretch: list shorter than the magnitude of δ"
+abbrev pub TooFar : List ℕ → List ℕ → ℤ → Type 0
+TooFar takens upcomings δ = length (ownList takens upcomings δ) < natAbs δ
+
+-- "7: no row left (Navigate: after removal; Load: n above C)"
+abbrev pub Full : List ℕ → List Row → Type 0
+Full words rows = capacity words ≤ length rows
+
+-- "8: next document number, or for Open the next frame number, is 4294967295"
+abbrev pub UsedUp : ℕ → Type 0
+UsedUp next = next ≡ none
+
+-- "9: a lent answer buffer is too short"
+abbrev pub TooShort : List ℕ → List ℕ → Type 0
+TooShort room values = length room < length values
+
+-- A number and when it is given.
+pub record Line : Type 1 where
+  pub number : ℕ
+  pub condition : Type 0
+
+infix 70 _if_
+abbrev pub _if_ : ℕ → Type 0 → Line
+k if P = record { number = k; condition = P }
+
+-- THE TABLE "Nine ways to say no", read by call: each number that the call may give.
+unfoldable pub lines : Call → List Line
+lines (Call.Fresh words) = 1 if Short words ∷ []
+lines (Call.Open words parent) =
+    1 if Short words ∷ 2 if Unsound words ∷ 4 if Absent words parent ∷ 5 if Hidden words parent ∷ 7 if Full words (rowsOf words)
+    ∷ 8 if (UsedUp (tableOf words .nextDoc) ⊎ UsedUp (tableOf words .nextFrame)) ∷ []
+lines (Call.Navigate words from) =
+    1 if Short words ∷ 2 if Unsound words ∷ 4 if Absent words from ∷ 5 if Hidden words from ∷ 7 if Full words (cleared (rowsOf words))
+    ∷ 8 if UsedUp (tableOf words .nextDoc) ∷ []
+lines (Call.Traverse words δ room) = 1 if Short words ∷ 2 if Unsound words ∷ 6 if Beyond words δ ∷ 9 if TooShort room (changes (tableOf words) δ) ∷ []
+lines (Call.Position words) = 1 if Short words ∷ 2 if Unsound words ∷ []
+lines (Call.Visible words d) = 1 if Short words ∷ 2 if Unsound words ∷ 4 if Absent words d ∷ []
+lines (Call.Lists words takens upcomings) =
+    1 if Short words ∷ 2 if Unsound words
+    ∷ 9 if (TooShort takens (takenList (rowsOf words)) ⊎ TooShort upcomings (upcomingList (rowsOf words))) ∷ []
+lines (Call.Stretch takens upcomings δ) = []
+lines (Call.StretchCount takens upcomings δ) = 6 if TooFar takens upcomings δ ∷ []
+lines (Call.Outline words room) = 1 if Short words ∷ 2 if Unsound words ∷ 9 if TooShort room (outlineOf (tableOf words)) ∷ []
+lines (Call.Save words room) = 1 if Short words ∷ 2 if Unsound words ∷ 9 if TooShort room (saved (tableOf words)) ∷ []
+lines (Call.Load words bytes) = 1 if Short words ∷ 3 if NotSaved bytes ∷ 7 if (capacity words < length (loaded bytes .rows)) ∷ []
+
+-- Condition k is among these lines and holds.
+unfoldable pub HoldsIn : ℕ → List Line → Type 0
+HoldsIn k [] = ⊥
+HoldsIn k (l ∷ rest) = ((l .number ≡ k) × l .condition) ⊎ HoldsIn k rest
+
+-- Number k applies to a call.
+abbrev pub Applies : ℕ → Call → Type 0
+Applies k c = HoldsIn k (lines c)
+
+pub record RefusesRightly (c : Call) : Type 0 where
+  -- "It refuses only by the nine refusals of document 01"
+  pub nine : (k : ℕ) → outcome c .answer ≡ Answer.refuses k → (1 ≤ k) × (k ≤ 9)
+  -- "exactly when that document says": "Where several apply, the smallest number is given."
+  pub exactly : (k : ℕ) → (outcome c .answer ≡ Answer.refuses k) ↔ (Applies k c × ((j : ℕ) → j < k → Applies j c → ⊥))
+  -- "and then each lent word and byte reads as before"
+  pub kept : (k : ℕ) → outcome c .answer ≡ Answer.refuses k → outcome c .lent ≡ lentTo c
+
+-- "Every call takes arbitrary table words, numbers and saved bytes [..]"
+abbrev pub Demand1 : Type 0
+Demand1 = (c : Call) → RefusesRightly c

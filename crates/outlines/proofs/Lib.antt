@@ -1,0 +1,5 @@
+pub mod Nexts
+pub mod Texts
+pub mod Weights
+pub mod Outlines
+pub mod Ways
