@@ -19,3 +19,4 @@ pub mod Numbers
 pub mod Told
 pub mod Trips
 pub mod Loads
+pub mod Appended

@@ -1,0 +1,119 @@
+-- Fresh and Open, by the ways that they go. Assumes nothing.
+use Prim.Native.Nat.{ℕ, suc, _+_, _-_, _*_, _≤_, _<_}
+use mathlib.Core.Bool.{Bool, true, false, not, _||_, So}
+use mathlib.Core.List.{List, [], _∷_, _++_, flatMap}
+use mathlib.Core.Logic.{_≢_, inl, inr}
+use mathlib.Core.Path.{_≡_, refl, sym, ap, ap₂, subst, _∙_}
+use native.Mathlib.Numerals.{add-one}
+use native.Mathlib.Omega.{arith}
+use lib.ListN.{length, replicate}
+use lib.Dec.{eqb, leb}
+use borrow.Author.Tests.{lt-ltb, le-ltb, leb-false, le-leb, lt-leb, eqb-false, eq-eqb, ne-eqb, not-false}
+use Rattle.base.specs.declared.Refusal.{Refusal}
+use Rattle.base.specs.Numbers.{numberOf}
+use Rattle.rules.specs.Rows.{Row, Table, none, inRecord}
+use Rattle.rules.specs.Steps.{visible}
+use Rattle.rules.specs.Moves.{freshTable, opened}
+use Rattle.rules.specs.Words.{put, capacity, tableOf, rowsOf, rowWords, wordsOf, written}
+use Rattle.rules.specs.Sound.{sound?}
+use Rattle.rules.specs.Calls.{Call, Answer, refusals, accepted, ladder, outcome, Given, NoneGiven}
+use Rattle.laws.proofs.Tests.{test, clash}
+use Rattle.laws.proofs.Writes.{put-put}
+use Rattle.laws.proofs.Words.{rows-length, written-table}
+use Rattle.laws.proofs.Appended.{written-more}
+use Rattle.laws.proofs.Calls.{outcome-accepted}
+use Rattle.sound.specs.Check.{Examined}
+use Rattle.sound.proofs.Checks.{examined-sound}
+
+-- FRESH
+
+pub fresh-short : (words : List ℕ) → length words < 7 → outcome (Call.Fresh words) ≡ record { answer = Answer.refuses 1; lent = words ∷ [] }
+unfolding outcome refusals accepted ladder
+fresh-short words l = rw (lt-ltb _ _ l) refl
+
+-- The head, the row and the zeros, one after the other.
+fresh-words : (words a b new : List ℕ) (c : ℕ) → c ≡ capacity words → 1 ≤ c → a ≡ put words 0 (1 ∷ 1 ∷ 1 ∷ []) → b ≡ put a 3 (0 ∷ 0 ∷ none ∷ 1 ∷ []) →
+    new ≡ put b 7 (replicate (3 + 4 * c - 7) 0) → new ≡ written words freshTable
+unfolding written wordsOf flatMap
+fresh-words words a b new c e l p q r =
+    let n : 3 + 4 * c - 7 ≡ 4 * (c - 1) = omega arith in
+    r ∙ ap₂ (λ l z. put l 7 (replicate z 0)) (q ∙ ap (λ l. put l 3 (0 ∷ 0 ∷ none ∷ 1 ∷ [])) p ∙ put-put (1 ∷ 1 ∷ 1 ∷ []) (0 ∷ 0 ∷ none ∷ 1 ∷ []) words 0) n
+    ∙ put-put (1 ∷ 1 ∷ 1 ∷ 0 ∷ 0 ∷ none ∷ 1 ∷ []) (replicate (4 * (c - 1)) 0) words 0 ∙ rw e refl
+
+pub fresh-done : (words a b new : List ℕ) (c : ℕ) → 7 ≤ length words → c ≡ capacity words → a ≡ put words 0 (1 ∷ 1 ∷ 1 ∷ []) → b ≡ put a 3 (0 ∷ 0 ∷ none ∷ 1 ∷ []) →
+    new ≡ put b 7 (replicate (3 + 4 * c - 7) 0) → outcome (Call.Fresh words) ≡ record { answer = Answer.gives []; lent = new ∷ [] }
+unfolding outcome refusals accepted ladder
+fresh-done words a b new c l e p q r = rw (le-ltb _ _ l, fresh-words words a b new c e (omega arith) p q r) refl
+
+-- OPEN
+
+module _ (words : List ℕ) (parent : ℕ) where
+  abbrev call : Call
+  call = Call.Open words parent
+
+  -- Each refusal after the first two.
+  module _ (e : Examined words) where
+    pub open-absent : inRecord (rowsOf words) parent ≡ false → Given 4 (refusals call)
+    unfolding refusals Given
+    open-absent f = inr (e .long, inr (rw (e .passes) refl, inl (rw f refl, refl)))
+
+    module _ (here : inRecord (rowsOf words) parent ≡ true) where
+      pub open-hidden : visible (rowsOf words) parent ≡ false → Given 5 (refusals call)
+      unfolding refusals Given
+      open-hidden f = inr (e .long, inr (rw (e .passes) refl, inr (rw here refl, inl (rw f refl, refl))))
+
+      module _ (seen : visible (rowsOf words) parent ≡ true) where
+        pub open-full : capacity words ≤ length (rowsOf words) → Given 7 (refusals call)
+        unfolding refusals Given
+        open-full l = inr (e .long, inr (rw (e .passes) refl, inr (rw here refl, inr (rw seen refl, inl (le-leb _ _ l, refl)))))
+
+        module _ (room : length (rowsOf words) < capacity words) where
+          pub open-no-document : tableOf words .nextDoc ≡ none → Given 8 (refusals call)
+          unfolding refusals Given
+          open-no-document z = inr (e .long, inr (rw (e .passes) refl, inr (rw here refl, inr (rw seen refl, inr (lt-leb _ _ room, inl (rw (eq-eqb _ _ z) refl, refl))))))
+
+          module _ (unused : tableOf words .nextDoc ≡ none → ⊥) where
+            pub open-no-frame : tableOf words .nextFrame ≡ none → Given 8 (refusals call)
+            unfolding refusals Given
+            open-no-frame z = inr (e .long, inr (rw (e .passes) refl, inr (rw here refl, inr (rw seen refl, inr (lt-leb _ _ room, inl (rw (ne-eqb _ _ unused, eq-eqb _ _ z) refl, refl))))))
+
+            pub open-fine : (tableOf words .nextFrame ≡ none → ⊥) → NoneGiven (refusals call)
+            unfolding refusals NoneGiven
+            open-fine ne = (e .long, (rw (e .passes) refl, (rw here refl, (rw seen refl, (lt-leb _ _ room, (rw (ne-eqb _ _ unused, ne-eqb _ _ ne) refl, tt))))))
+
+  -- What an accepted Open may rely on.
+  pub record Opening : Type 0 where
+    pub examined : Examined words
+    pub room : length (rowsOf words) < capacity words
+    pub document : tableOf words .nextDoc ≢ none
+    pub frame : tableOf words .nextFrame ≢ none
+
+  pub opening : NoneGiven (refusals call) → Opening
+  unfolding refusals NoneGiven
+  opening h =
+      let u = h .1 .1 .1 .1 .1 .0 in
+      record {
+        examined = record { long = h .0; passes = not-false _ (h .1 .0) };
+        room = leb-false _ _ (h .1 .1 .1 .1 .0);
+        document = λ z. clash (rw (eq-eqb (tableOf words .nextDoc) none z) refl) u;
+        frame = λ z. clash (either (eqb (tableOf words .nextDoc) none) (eq-eqb (tableOf words .nextFrame) none z)) u;
+      }
+    where
+      either : (a : Bool) {b : Bool} → So b → So (a || b)
+      either true h = refl
+      either false h = h
+
+  -- The row and the head written.
+  pub open-done : (mid new : List ℕ) (n d f : ℕ) → NoneGiven (refusals call) → n ≡ length (rowsOf words) → d ≡ tableOf words .nextDoc → f ≡ tableOf words .nextFrame →
+      mid ≡ put words (3 + 4 * n) (d ∷ f ∷ parent ∷ 1 ∷ []) → new ≡ put mid 0 ((n + 1) ∷ (d + 1) ∷ (f + 1) ∷ []) →
+      outcome call ≡ record { answer = Answer.gives (d ∷ f ∷ []); lent = new ∷ [] }
+  unfolding accepted opened
+  open-done mid new n d f h a b c p q =
+      let o = opening h in
+      let t = tableOf words in
+      let r : Row = record { doc = t .nextDoc; frame = t .nextFrame; parent = parent; shown = 1 } in
+      let w : put (put words (3 + 4 * length (rowsOf words)) (rowWords r)) 0 ((length (rowsOf words) + 1) ∷ (t .nextDoc + 1) ∷ (t .nextFrame + 1) ∷ [])
+      ≡ written words (record { rows = rowsOf words ++ r ∷ []; nextDoc = t .nextDoc + 1; nextFrame = t .nextFrame + 1 }) =
+      ap (λ l. put (put l (3 + 4 * length (rowsOf words)) (rowWords r)) 0 ((length (rowsOf words) + 1) ∷ (t .nextDoc + 1) ∷ (t .nextFrame + 1) ∷ [])) (sym (written-table words (examined-sound words (o .examined))))
+      ∙ written-more words t r (t .nextDoc + 1) (t .nextFrame + 1) (o .room) in
+      outcome-accepted call h ∙ rw (q, p, a, b, c, w, add-one (t .nextDoc), add-one (t .nextFrame)) refl

@@ -1,0 +1,97 @@
+// Fresh and Open.
+use base::DocNo;
+use base::FrameNo;
+use base::Refusal;
+use base::RowPlace;
+use rows::Found;
+use rows::NONE;
+use sound::Check;
+ghost use mathlib.Core.Path.{_≡_};
+ghost use mathlib.Core.List.{[], _∷_};
+ghost use Rattle.rules.specs.Calls.{Call, outcome};
+ghost use Rattle.sound.specs.Check.{Examined, Judged};
+ghost use Rattle.sound.specs.declared.Check.the-variants.{Sound};
+ghost use Rattle.moves.specs.Answers.{freshIs, openedIs};
+
+// What Fresh answers.
+pub enum Freshened {
+    Done,
+    Refused(Refusal),
+}
+
+// Writes the record of a new window: one document in the root frame.
+pub fn fresh(words: &mut [u32]) -> Freshened
+    ensures { λ r. ⌜ outcome (Call.Fresh (now (words .entry))) ≡ record { answer = freshIs r; lent = now (words .exit) ∷ [] } ⌝ }
+{
+    if words.len() < 7 {
+        return Freshened::Refused(Refusal::ShortRecord);
+    }
+    let c = rows::capacity(words);
+    writes::put_head(words, 1, DocNo(1), FrameNo(1));
+    writes::put_row(words, RowPlace(0), DocNo(0), FrameNo(0), DocNo(NONE), 1);
+    writes::clear(words, 7, 3 + 4 * c);
+    Freshened::Done
+}
+
+// What Open answers: the numbers of the new document and its frame.
+pub enum Opened {
+    Numbers(DocNo, FrameNo),
+    Refused(Refusal),
+}
+
+// Whether a frame may be opened under a document of a sound record.
+fn may_open(words: &[u32], parent: DocNo) -> Check
+    requires { ⌜ Examined (now words) ⌝ }
+    ensures { λ r. ⌜ Judged (Call.Open (now (words .entry)) (parent .0)) r ⌝ }
+{
+    let n = rows::row_count(words);
+    let Found::At(at) = rows::find_below(words, RowPlace(n), parent) else {
+        return Check::No(Refusal::Absent);
+    };
+    if !asks::climb(words, at) {
+        return Check::No(Refusal::Hidden);
+    }
+    if rows::capacity(words) <= n {
+        return Check::No(Refusal::Full);
+    }
+    if rows::next_document(words).0 == NONE {
+        return Check::No(Refusal::UsedUp);
+    }
+    if rows::next_frame_number(words).0 == NONE {
+        return Check::No(Refusal::UsedUp);
+    }
+    Check::Sound
+}
+
+// Whether a frame may be opened under a document.
+fn judge_open(words: &[u32], parent: DocNo) -> Check
+    ensures { λ r. ⌜ Judged (Call.Open (now (words .entry)) (parent .0)) r ⌝ }
+{
+    match sound::examine(words) {
+        Check::No(r) => Check::No(r),
+        Check::Sound => may_open(words, parent),
+    }
+}
+
+// Appends the first row of a new frame.
+fn append_child(words: &mut [u32], parent: DocNo) -> Opened
+    requires { ⌜ Judged (Call.Open (now words) (parent .0)) Sound ⌝ }
+    ensures { λ r. ⌜ outcome (Call.Open (now (words .entry)) (parent .0)) ≡ record { answer = openedIs r; lent = now (words .exit) ∷ [] } ⌝ }
+{
+    let n = rows::row_count(words);
+    let d = rows::next_document(words);
+    let f = rows::next_frame_number(words);
+    writes::put_row(words, RowPlace(n), d, f, parent, 1);
+    writes::put_head(words, n + 1, DocNo(d.0 + 1), FrameNo(f.0 + 1));
+    Opened::Numbers(d, f)
+}
+
+// Opens a frame under a visible document.
+pub fn open_frame(words: &mut [u32], parent: DocNo) -> Opened
+    ensures { λ r. ⌜ outcome (Call.Open (now (words .entry)) (parent .0)) ≡ record { answer = openedIs r; lent = now (words .exit) ∷ [] } ⌝ }
+{
+    match judge_open(words, parent) {
+        Check::No(r) => Opened::Refused(r),
+        Check::Sound => append_child(words, parent),
+    }
+}
