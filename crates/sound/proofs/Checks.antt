@@ -12,10 +12,11 @@ use Rattle.base.specs.declared.Refusal.the-variants.{ShortRecord, Unsound}
 use Rattle.base.specs.Numbers.{numberOf}
 use Rattle.rules.specs.Words.{capacity, rowsOf}
 use Rattle.rules.specs.Sound.{Sound, sound?}
-use Rattle.rules.specs.Calls.{Rung, _when_, short, unsound, Given}
+use Rattle.rules.specs.Calls.{Call, Answer, Rung, _when_, short, unsound, lentTo, refusals, outcome, Given, NoneGiven}
+use Rattle.laws.proofs.Calls.{outcome-refused}
 use Rattle.laws.proofs.Tests.{test}
 use Rattle.laws.proofs.Reflect.{sound-is}
-use Rattle.sound.specs.Check.{checkOf, Examined}
+use Rattle.sound.specs.Check.{checkOf, Examined, Judged}
 use Rattle.sound.specs.declared.Check.{Check}
 use Rattle.sound.specs.declared.Check.the-variants.{Sound as Fine, No}
 
@@ -61,3 +62,11 @@ module _ (words : List ℕ) (e : Examined words) where
 
   pub examined-held : length (rowsOf words) ≤ capacity words
   examined-held = examined-sound .table .s1 .fits
+
+-- What a judge's word is worth.
+module _ (c : Call) (k : Check) (j : Judged c k) where
+  pub judged-fine : k ≡ Fine → NoneGiven (refusals c)
+  judged-fine e = subst (Judged c) e j
+
+  pub judged-refused : (r : Refusal) → k ≡ No r → outcome c ≡ record { answer = Answer.refuses (numberOf r); lent = lentTo c }
+  judged-refused r e = outcome-refused c (numberOf r) (subst (Judged c) e j)

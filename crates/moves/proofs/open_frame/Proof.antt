@@ -1,0 +1,18 @@
+-- `moves::open_frame` meets its contract. Assumes nothing.
+use borrow.Author.Needs.{needs}
+use denote.Ref.{now}
+use Rattle.sound.proofs.Checks.{judged-fine, judged-refused}
+use Rattle.moves.proofs.open_frame.Statement.{statement}
+use Rattle.moves.proofs.open_frame.Tie as tie
+
+pub open-frame-spec : {M : Type 1} → statement M
+open-frame-spec =
+    tie.close (tie.spec
+    (λ c κs. search needs)
+    (λ c. search needs)
+    (λ c. search needs)
+    (λ c κs. judged-fine _ _ (c .before .before .before .judge-open .ensures) (c .before .enum-told .given .1))
+    (λ c. search needs)
+    (λ c. judged-refused _ _ (c .before .before .before .judge-open .ensures) _ (c .before .r .given .1))
+    (λ c. search needs)
+    (λ c. c .before .before .append-child .ensures))
