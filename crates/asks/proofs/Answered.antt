@@ -25,7 +25,7 @@ use Rattle.rows.proofs.Positions.{tallied-position, tallied-steps}
 use Rattle.sound.specs.Check.{checkOf, Examined}
 use Rattle.sound.specs.declared.Check.{Check}
 use Rattle.sound.specs.declared.Check.the-variants.{No}
-use Rattle.asks.proofs.Listing.{taken-length, upcoming-length}
+use Rattle.laws.proofs.Lists.{taken-length, upcoming-length}
 use Rattle.sound.proofs.Checks.{check-given, examined-long, examined-sound, examined-held}
 
 module _ (words : List ℕ) (k : Check) (r : Refusal) (e : k ≡ checkOf words) (f : k ≡ No r) where

@@ -16,8 +16,7 @@ use Rattle.rules.specs.Words.{put}
 use Rattle.rules.specs.Sound.{S6, S7}
 use Rattle.rules.specs.Asks.{takenList, upcomingList}
 use Rattle.laws.proofs.Tests.{test, count-zero, count-yes, count-no, count-same, count-first, length-gather}
-use Rattle.laws.proofs.Frames.{due, due-step, due-in, due-out}
-use Rattle.laws.proofs.Central.{reached-is, position-steps}
+use Rattle.laws.proofs.Lists.{taken-is, upcoming-is, count-taken, count-upcoming}
 use Rattle.laws.proofs.Writes.{length-put, put-none, put-before, put-after}
 use Rattle.asks.specs.Listing.{takenWith, upcomingWith}
 
@@ -30,38 +29,6 @@ pub filling-lengths : (rows : List Row) (i : ℕ) (ts₀ us₀ ts us : List ℕ)
 filling-lengths rows i ts₀ us₀ ts us h = (ap length (h .takens-are) ∙ length-put ts₀ _ _, ap length (h .upcomings-are) ∙ length-put us₀ _ _)
 
 module _ (rows : List Row) (s6 : S6 rows) (s7 : S7 rows) where
-  -- The first steps are the taken ones.
-  taken-is : (i : ℕ) → i < length rows → taken rows i ≡ (isStep rows i && ltb (count (isStep rows) i) (position rows))
-  taken-is i l = ap (λ b. isStep rows i && b) (reached-is rows s6 s7 i l) ∙ due-step (frameAt rows) (position rows) i
-
-  upcoming-is : (i : ℕ) → i < length rows → upcoming rows i ≡ (isStep rows i && not (ltb (count (isStep rows) i) (position rows)))
-  upcoming-is i l =
-      test (isStep rows i)
-      (λ t. let e : reached rows i ≡ ltb (count (isStep rows) i) (position rows) = sym (rw t at (refl {a = taken rows i})) ∙ rw t at (taken-is i l) in rw t (ap not e))
-      (λ f. rw f refl)
-
-  count-taken : (i : ℕ) → i ≤ length rows → count (taken rows) i ≡ min (position rows) (count (isStep rows) i)
-  count-taken i l = count-same _ _ i (λ k m. taken-is k (omega arith)) ∙ count-first (isStep rows) (position rows) i
-
-  count-upcoming : (i : ℕ) → i ≤ length rows → count (upcoming rows) i ≡ count (isStep rows) i - position rows
-  count-upcoming zero l = omega (arith, count-zero (upcoming rows), count-zero (isStep rows))
-  count-upcoming (suc i) l =
-      let ih = count-upcoming i (omega arith) in
-      let u = upcoming-is i (omega arith) in
-      test (isStep rows i)
-      (λ t. test (ltb (count (isStep rows) i) (position rows))
-      (λ b. let lt = ltb-true (count (isStep rows) i) (position rows) b in omega (arith, count-no (upcoming rows) i (u ∙ rw (t, b) refl), count-yes (isStep rows) i t))
-      (λ b. let ge = ltb-false (count (isStep rows) i) (position rows) b in omega (arith, count-yes (upcoming rows) i (u ∙ rw (t, b) refl), count-yes (isStep rows) i t)))
-      (λ f. omega (arith, count-no (upcoming rows) i (u ∙ rw f refl), count-no (isStep rows) i f))
-
-  pub taken-length : length (takenList rows) ≡ position rows
-  unfolding takenList position
-  taken-length = length-reverse (gather (taken rows) (docAt rows) (length rows)) ∙ length-gather (taken rows) (docAt rows) (length rows)
-
-  pub upcoming-length : length (upcomingList rows) ≡ steps rows - position rows
-  unfolding upcomingList steps
-  upcoming-length = length-gather (upcoming rows) (docAt rows) (length rows) ∙ count-upcoming (length rows) (omega arith)
-
   pub filling-starts : (ts us : List ℕ) → Filling rows 0 ts us ts us
   unfolding gather
   filling-starts ts us = record { takens-are = put-none ts _; upcomings-are = put-none us _ }

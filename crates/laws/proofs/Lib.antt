@@ -9,6 +9,7 @@ pub mod Climb
 pub mod Removal
 pub mod Navigate
 pub mod Travel
+pub mod Lists
 pub mod Reflect
 pub mod Writes
 pub mod Words
