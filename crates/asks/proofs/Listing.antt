@@ -39,8 +39,8 @@ module _ (rows : List Row) (s6 : S6 rows) (s7 : S7 rows) where
   unfolding gather
   takens-more i m d s ts₀ ts l e f g h =
       let xs = gather (taken rows) (docAt rows) i in
-      let t-is = taken-is i l in
-      let c = count-taken i (omega arith) in
+      let t-is = taken-is rows s6 s7 i l in
+      let c = count-taken rows s6 s7 i (omega arith) in
       rw (e, f, g) (rw (← t-is) (test (taken rows i)
       (λ t.
       let lt = ltb-true (count (isStep rows) i) (position rows) (snd (isStep rows i) _ (sym t-is ∙ t)) in
@@ -61,8 +61,8 @@ module _ (rows : List Row) (s6 : S6 rows) (s7 : S7 rows) where
   unfolding gather
   upcomings-more i m d s us₀ us l e f g h =
       let xs = gather (upcoming rows) (docAt rows) i in
-      let u-is = upcoming-is i l in
-      let n : count (isStep rows) i - position rows ≡ 0 + length xs = omega (arith, count-upcoming i (omega arith), length-gather (upcoming rows) (docAt rows) i) in
+      let u-is = upcoming-is rows s6 s7 i l in
+      let n : count (isStep rows) i - position rows ≡ 0 + length xs = omega (arith, count-upcoming rows s6 s7 i (omega arith), length-gather (upcoming rows) (docAt rows) i) in
       rw (e, f, g) (rw (← u-is) (test (upcoming rows i)
       (λ t.
       rw (t, add-one i, t) (ap (λ z. set z (count (isStep rows) i - position rows) (docAt rows i)) h ∙ ap (λ k. set (put us₀ 0 xs) k (docAt rows i)) n ∙ put-after xs us₀ 0 (docAt rows i)))
