@@ -16,7 +16,7 @@ use Rattle.rules.specs.Rows.{inRecord, flag}
 use Rattle.rules.specs.Steps.{position, steps, visible}
 use Rattle.rules.specs.Words.{put, rowsOf}
 use Rattle.rules.specs.Asks.{takenList, upcomingList, ownList, stretched}
-use Rattle.rules.specs.Calls.{Call, Answer, Outcome, refusals, accepted, ladder, outcome}
+use Rattle.rules.specs.Calls.{Call, Answer, refusals, accepted, ladder, outcome}
 use Rattle.laws.proofs.Calls.{outcome-refused}
 use Rattle.rows.specs.Held.{Before}
 use Rattle.rows.specs.Tally.{Tallied}

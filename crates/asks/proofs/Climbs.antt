@@ -1,15 +1,14 @@
 -- The climb, by the ways that it goes. Assumes nothing.
-use Prim.Native.Nat.{ℕ, _≤_, _<_}
-use mathlib.Core.Bool.{Bool, true, false, _&&_, _||_, So}
+use Prim.Native.Nat.{ℕ}
+use mathlib.Core.Bool.{Bool, true, false}
 use mathlib.Core.List.{List}
-use mathlib.Core.Path.{_≡_, refl, sym, ap, subst, _∙_}
-use native.Mathlib.Omega.{arith}
+use mathlib.Core.Path.{_≡_, refl, sym, ap, _∙_}
 use lib.Dec.{eqb}
 use lib.ListN.{length}
 use borrow.Author.Tests.{eq-eqb, ne-eqb, eqb-true}
 use Rattle.base.specs.declared.RowPlace.{RowPlace}
-use Rattle.rules.specs.Below.{someBelow, latest}
-use Rattle.rules.specs.Rows.{Row, none, docAt, parentAt, isShown, isDoc, inRecord, climb}
+use Rattle.rules.specs.Below.{latest}
+use Rattle.rules.specs.Rows.{Row, none, parentAt, isShown, isDoc, inRecord, climb}
 use Rattle.rules.specs.Steps.{visibleAsk, visibleAt, visible}
 use Rattle.laws.proofs.Tests.{clash, some-in, some-out, greatest, latest-is}
 use Rattle.laws.proofs.Climb.{climb-none, climb-found}

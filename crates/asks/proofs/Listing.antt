@@ -1,21 +1,21 @@
 -- The two lists, filled row by row. Assumes nothing.
-use Prim.Native.Nat.{ℕ, zero, suc, _+_, _-_, _≤_, _<_, min}
-use mathlib.Core.Bool.{Bool, true, false, not, _&&_, So, cond}
-use mathlib.Core.List.{List, [], _∷_, _++_, reverse, reverse-append}
-use mathlib.Core.Path.{_≡_, refl, sym, ap, ap₂, subst, _∙_}
+use Prim.Native.Nat.{ℕ, suc, _+_, _-_, _≤_, _<_, min}
+use mathlib.Core.Bool.{Bool, true, false, not, _&&_, So}
+use mathlib.Core.List.{List, [], _∷_, reverse, reverse-append}
+use mathlib.Core.Path.{_≡_, refl, sym, ap, ap₂, _∙_}
 use native.Mathlib.Nat.{le-antisymm}
 use native.Mathlib.Numerals.{add-one}
 use native.Mathlib.Omega.{arith}
 use lib.Dec.{ltb}
-use lib.ListN.{length, set, length-reverse}
-use borrow.Author.Tests.{ltb-true, ltb-false, lt-ltb, le-ltb}
+use lib.ListN.{length, set}
+use borrow.Author.Tests.{ltb-true, lt-ltb, le-ltb}
 use Rattle.rules.specs.Below.{count, gather}
-use Rattle.rules.specs.Rows.{Row, docAt, frameAt}
-use Rattle.rules.specs.Steps.{isStep, reached, taken, upcoming, position, steps}
+use Rattle.rules.specs.Rows.{Row, docAt}
+use Rattle.rules.specs.Steps.{isStep, taken, upcoming, position, steps}
 use Rattle.rules.specs.Words.{put}
 use Rattle.rules.specs.Sound.{S6, S7}
 use Rattle.rules.specs.Asks.{takenList, upcomingList}
-use Rattle.laws.proofs.Tests.{test, count-zero, count-yes, count-no, count-same, count-first, length-gather}
+use Rattle.laws.proofs.Tests.{test, count-yes, count-no, length-gather}
 use Rattle.laws.proofs.Lists.{taken-is, upcoming-is, count-taken, count-upcoming}
 use Rattle.laws.proofs.Writes.{length-put, put-none, put-before, put-after}
 use Rattle.asks.specs.Listing.{takenWith, upcomingWith}

@@ -1,5 +1,4 @@
 -- The paper's number and values for each case of an answer.
-use Prim.Native.Nat.{ℕ}
 use mathlib.Core.List.{[], _∷_}
 use Rattle.base.specs.Numbers.{numberOf}
 use Rattle.rules.specs.Calls.{Answer}

@@ -8,7 +8,7 @@ use rows::NONE;
 use sound::Check;
 ghost use mathlib.Core.Path.{_≡_};
 ghost use mathlib.Core.List.{[], _∷_};
-ghost use Prim.Native.Nat.{_<_, _≤_};
+ghost use Prim.Native.Nat.{_<_};
 ghost use lib.ListN.{length};
 ghost use Rattle.rules.specs.Steps.{visibleAt, position as positionOf};
 ghost use Rattle.rules.specs.Words.{put, rowsOf};

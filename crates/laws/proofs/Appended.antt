@@ -1,13 +1,11 @@
 -- The words of a table with one row more. Assumes nothing.
-use Prim.Native.Nat.{ℕ, zero, suc, _+_, _-_, _*_, _≤_, _<_}
+use Prim.Native.Nat.{ℕ, zero, suc, _+_, _-_, _*_, _<_}
 use mathlib.Core.List.{List, [], _∷_, _++_, flatMap, append-assoc, append-nil}
 use mathlib.Core.Path.{_≡_, refl, sym, ap, _∙_}
-use native.Mathlib.Numerals.{add-one}
 use native.Mathlib.Omega.{arith}
 use lib.ListN.{length, replicate, length-append}
 use Rattle.rules.specs.Rows.{Row, Table}
 use Rattle.rules.specs.Words.{put, capacity, rowWords, wordsOf, written}
-use Rattle.rules.specs.Sound.{Sound}
 use Rattle.laws.proofs.Writes.{put-inside}
 use Rattle.laws.proofs.Words.{length-words}
 use Rattle.laws.proofs.Pieces.{flat-append}

@@ -3,14 +3,14 @@ use Prim.Native.Nat.{ℕ, zero, suc, _+_, _-_, _≤_, _<_, min}
 use mathlib.Core.Path.{_≡_, refl, sym, ap, _∙_, subst, subst₂, subst₃}
 use mathlib.Core.Logic.{_↔_}
 use mathlib.Core.List.{List}
-use mathlib.Core.Bool.{Bool, true, false, not, _&&_, So, cond, and-eq-true-iff}
+use mathlib.Core.Bool.{true, false, not, _&&_, So, cond, and-eq-true-iff}
 use native.Mathlib.Nat.{add-suc, add-zero}
 use native.Mathlib.Omega.{arith}
 use lib.Dec.{eqb}
 use lib.ListN.{length}
 use borrow.Author.Tests.{eqb-true, eq-eqb}
 use Rattle.rules.specs.Below.{count, earliest, latest}
-use Rattle.rules.specs.Rows.{Row, rowAt, docAt, frameAt, parentAt, shownAt, isShown, marked, withFlags}
+use Rattle.rules.specs.Rows.{Row, rowAt, docAt, frameAt, parentAt, isShown, marked, withFlags}
 use Rattle.rules.specs.Steps.{same, step, reach, isStep, reached, taken, upcoming, position, steps}
 use Rattle.rules.specs.Moves.{show, forward, back, backTarget, rowBefore, times}
 use Rattle.rules.specs.Sound.{S6, S7}

@@ -1,14 +1,14 @@
 -- The climb from a row to its parent's: what stands beneath a row, and what is visible. Assumes nothing.
-use Prim.Native.Nat.{ℕ, zero, suc, _+_, _≤_, _<_}
-use mathlib.Core.Path.{_≡_, refl, sym, ap, _∙_, subst}
+use Prim.Native.Nat.{ℕ, zero, suc, _≤_, _<_}
+use mathlib.Core.Path.{_≡_, refl, sym, _∙_}
 use mathlib.Core.List.{List}
 use mathlib.Core.Logic.{_⊎_, inl, inr, ⊎-elim}
-use mathlib.Core.Bool.{Bool, true, false, _&&_, _||_, So, false≢true, and-eq-true-iff}
+use mathlib.Core.Bool.{Bool, true, false, So, false≢true, and-eq-true-iff}
 use native.Mathlib.Nat.{not-suc-le-zero}
 use native.Mathlib.Omega.{arith}
 use lib.Dec.{eqb}
 use lib.ListN.{length}
-use borrow.Author.Tests.{eqb-true, eqb-false, eq-eqb, ne-eqb}
+use borrow.Author.Tests.{eqb-true, eq-eqb, ne-eqb}
 use Rattle.rules.specs.Rows.{Row, none, docAt, parentAt, isShown, isDoc, climb}
 use Rattle.rules.specs.Steps.{visibleAsk, visibleAt, visible}
 use Rattle.rules.specs.Moves.{beneathAsk, gone}

@@ -1,7 +1,7 @@
 -- n places in order, fr telling their frames: at a position each frame shows one of its places, and that is all that S6 and S7 allow.
 -- Everything that the theory of rows needs, with no list in it. Assumes nothing.
-use Prim.Native.Nat.{ℕ, zero, suc, _+_, _-_, _≤_, _<_, min}
-use mathlib.Core.Path.{_≡_, refl, sym, ap, _∙_, subst}
+use Prim.Native.Nat.{ℕ, suc, _-_, _≤_, _<_, min}
+use mathlib.Core.Path.{_≡_, refl, sym, ap, _∙_}
 use mathlib.Core.Bool.{Bool, true, false, not, _&&_, _||_, So, cond, and-eq-true-iff}
 use native.Mathlib.Omega.{arith}
 use lib.Dec.{ltb, eqb, leb}
@@ -9,7 +9,7 @@ use borrow.Author.Tests.{ltb-true, lt-ltb, le-ltb, leb-true, le-leb, eqb-true, e
 use Rattle.rules.specs.Below.{someBelow, count, earliest, latest}
 use Rattle.rules.specs.Steps.{same, step, reach}
 use Rattle.laws.proofs.Tests.{test, clash, off, same-tests, by-order, by-lt, some-in, some-out, count-in, count-le, count-mono, count-flat, count-same, count-first}
-use Rattle.laws.proofs.Tests.{nth, one-in, greatest, least, earliest-is, latest-is}
+use Rattle.laws.proofs.Tests.{one-in, greatest, least, earliest-is, latest-is}
 
 -- Of n places, i passes q and no later place of its frame does.
 unfoldable pub last : ℕ → (ℕ → ℕ) → (ℕ → Bool) → ℕ → Bool

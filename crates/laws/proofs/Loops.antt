@@ -1,7 +1,7 @@
 -- Loops over the numbers below a bound: what holds before the first turn, what a turn adds, what a return tells.
 -- In each, b is what the turn's test answered at i. The rulesets are for `search` at the needs of a loop. Assumes nothing.
 use Prim.Native.Nat.{ℕ, zero, suc, _+_, _-_, _≤_, _<_}
-use mathlib.Core.Bool.{Bool, true, false, _&&_, _||_, So, cond}
+use mathlib.Core.Bool.{Bool, true, false, _&&_, So, cond}
 use mathlib.Core.Path.{_≡_, refl, sym, ap, subst, _∙_}
 use native.Mathlib.Nat.{not-suc-le-zero, le-antisymm}
 use native.Mathlib.Numerals.{add-one}
@@ -11,7 +11,7 @@ use mir.Val.{Fits, boolByte}
 use borrow.Author.Needs.{needs}
 use borrow.Author.Tests.{not-true, not-false, lt-ltb, le-ltb, le-leb, lt-leb, eq-eqb, ne-eqb}
 use Rattle.rules.specs.Below.{someBelow, allBelow, count, earliest, latest}
-use Rattle.laws.proofs.Tests.{test, clash, off, or-false, some-in, some-out, all-in, all-out, count-zero, count-yes, count-no, earliest-is}
+use Rattle.laws.proofs.Tests.{test, clash, off, some-in, some-out, all-out, count-zero, count-yes, count-no, earliest-is}
 
 module _ (p : ℕ → Bool) where
   -- EVERY

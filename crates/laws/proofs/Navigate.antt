@@ -1,5 +1,5 @@
 -- Opening appends at the position; navigating is clearing, appending and one step forward. Both keep a record sound. Assumes nothing.
-use Prim.Native.Nat.{ℕ, zero, suc, _+_, _≤_, _<_}
+use Prim.Native.Nat.{ℕ, suc, _+_, _≤_, _<_}
 use mathlib.Core.Path.{_≡_, refl, sym, ap, ap₂, _∙_, subst}
 use mathlib.Core.List.{List, [], _∷_, _++_}
 use mathlib.Core.Logic.{_≢_, inl, inr, ⊎-elim}
@@ -18,9 +18,9 @@ use Rattle.laws.proofs.Flags.{flags-eq}
 use Rattle.laws.proofs.Central.{flagsAt, central, at-S6, at-S7, position-steps, only-shown, show-at, forward-at}
 use Rattle.laws.proofs.Append.{step-agree, length-snoc, snoc-old, snoc-new, flags-append, append-at}
 use Rattle.laws.proofs.Kept.{kept-row, kept-length}
-use Rattle.laws.proofs.Tree.{TreeOf, distinct, proper, place-is, Alike, alike, tree-flags, tree-add}
+use Rattle.laws.proofs.Tree.{TreeOf, distinct, proper, place-is, alike, tree-flags, tree-add}
 use Rattle.laws.proofs.Climb.{visible-out, sees-out}
-use Rattle.laws.proofs.Removal.{SoundRows, stays, Removed, cleared-removed, cleared-position, cleared-steps, visible-stays}
+use Rattle.laws.proofs.Removal.{SoundRows, stays, cleared-removed, cleared-position, cleared-steps, visible-stays}
 
 pub tree-at : (p : ℕ) (rows : List Row) {a b : ℕ} → TreeOf rows a b → TreeOf (flagsAt p rows) a b
 unfolding flagsAt

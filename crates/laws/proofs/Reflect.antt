@@ -1,6 +1,6 @@
 -- The tests of soundness and what they mean: `Ref b P` says that b holds exactly when P does. Assumes nothing.
 use Prim.Native.Nat.{ℕ, zero, suc, _+_, _-_, _*_, _≤_, _<_}
-use mathlib.Core.Path.{_≡_, refl, subst}
+use mathlib.Core.Path.{_≡_, refl}
 use mathlib.Core.List.{List}
 use mathlib.Core.Logic.{_↔_, _⊎_, inl, inr, ⊎-elim}
 use mathlib.Core.Bool.{Bool, true, false, _&&_, _||_, not, So, false≢true}
@@ -12,7 +12,7 @@ use Rattle.rules.specs.Below.{someBelow, allBelow, count}
 use Rattle.rules.specs.Rows.{Row, Table, none, docAt, frameAt, parentAt, shownAt, isShown}
 use Rattle.rules.specs.Steps.{same, isStep, upcoming}
 use Rattle.rules.specs.Words.{capacity, tableOf}
-use Rattle.rules.specs.Sound.{S1, S2, S3, S4, S5, S6, S7, S8, s1?, s2?, s3?, s4?, kin?, root?, s5?, s6?, s7?, s8?, SoundTable, soundTable?, Sound, sound?}
+use Rattle.rules.specs.Sound.{S1, S2, S3, S4, S5, S6, S7, S8, s1?, s2?, s3?, s4?, s5?, s6?, s7?, s8?, SoundTable, soundTable?, Sound, sound?}
 use Rattle.laws.proofs.Tests.{by-lt, some-in, some-out, all-in, all-out}
 
 abbrev pub Ref : Bool → Type 0 → Type 0

@@ -1,25 +1,22 @@
 -- Fresh and Open, by the ways that they go. Assumes nothing.
-use Prim.Native.Nat.{ℕ, suc, _+_, _-_, _*_, _≤_, _<_}
+use Prim.Native.Nat.{ℕ, _+_, _-_, _*_, _≤_, _<_}
 use mathlib.Core.Bool.{Bool, true, false, not, _||_, So}
 use mathlib.Core.List.{List, [], _∷_, _++_, flatMap}
 use mathlib.Core.Logic.{_≢_, inl, inr}
-use mathlib.Core.Path.{_≡_, refl, sym, ap, ap₂, subst, _∙_}
+use mathlib.Core.Path.{_≡_, refl, sym, ap, ap₂, _∙_}
 use native.Mathlib.Numerals.{add-one}
 use native.Mathlib.Omega.{arith}
 use lib.ListN.{length, replicate}
 use lib.Dec.{eqb, leb}
-use borrow.Author.Tests.{lt-ltb, le-ltb, leb-false, le-leb, lt-leb, eqb-false, eq-eqb, ne-eqb, not-false}
-use Rattle.base.specs.declared.Refusal.{Refusal}
-use Rattle.base.specs.Numbers.{numberOf}
+use borrow.Author.Tests.{lt-ltb, le-ltb, leb-false, le-leb, lt-leb, eq-eqb, ne-eqb, not-false}
 use Rattle.rules.specs.Rows.{Row, Table, none, inRecord}
 use Rattle.rules.specs.Steps.{visible}
 use Rattle.rules.specs.Moves.{freshTable, opened}
 use Rattle.rules.specs.Words.{put, capacity, tableOf, rowsOf, rowWords, wordsOf, written}
-use Rattle.rules.specs.Sound.{sound?}
 use Rattle.rules.specs.Calls.{Call, Answer, refusals, accepted, ladder, outcome, Given, NoneGiven}
-use Rattle.laws.proofs.Tests.{test, clash}
+use Rattle.laws.proofs.Tests.{clash}
 use Rattle.laws.proofs.Writes.{put-put}
-use Rattle.laws.proofs.Words.{rows-length, written-table}
+use Rattle.laws.proofs.Words.{written-table}
 use Rattle.laws.proofs.Appended.{written-more}
 use Rattle.laws.proofs.Calls.{outcome-accepted}
 use Rattle.sound.specs.Check.{Examined}

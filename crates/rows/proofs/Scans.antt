@@ -1,7 +1,7 @@
 -- Scans downwards for the latest row that passes. Assumes nothing.
 use Prim.Native.Nat.{ℕ, zero, suc, _-_, _≤_, _<_}
-use mathlib.Core.Bool.{Bool, true, false, So, cond}
-use mathlib.Core.Path.{_≡_, refl, sym, ap, subst, _∙_}
+use mathlib.Core.Bool.{Bool, true, false, So}
+use mathlib.Core.Path.{_≡_, refl, sym, subst, _∙_}
 use native.Mathlib.Nat.{not-suc-le-zero}
 use native.Mathlib.Omega.{arith}
 use borrow.Author.Needs.{needs}
@@ -9,7 +9,7 @@ use borrow.Author.Tests.{not-true, not-false, eqb-true}
 use Rattle.rules.specs.Below.{someBelow, latest}
 use Rattle.rules.specs.Steps.{same, step}
 use Rattle.laws.proofs.Tests.{test, off, some-in, some-out, latest-out}
-use Rattle.rows.specs.Found.{foundIf, foundBelow}
+use Rattle.rows.specs.Found.{foundBelow}
 use Rattle.base.specs.declared.RowPlace.{RowPlace}
 use Rattle.rows.specs.Tally.{Under}
 use Rattle.rows.specs.declared.Found.{Found}

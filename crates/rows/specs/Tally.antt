@@ -1,10 +1,9 @@
 -- What one pass over the rows counts, and the lowest frame number from a bound on. Definitions.
 use Prim.Native.Nat.{ℕ, zero, suc, _≤_, _<_}
-use mathlib.Core.Bool.{Bool, _&&_, cond}
+use mathlib.Core.Bool.{_&&_, cond}
 use mathlib.Core.List.{List}
 use mathlib.Core.Path.{_≡_}
 use lib.Dec.{leb, ltb}
-use lib.ListN.{length}
 use Rattle.rules.specs.Below.{count, earliest}
 use Rattle.rules.specs.Rows.{Row, Table, frameAt, isShown, isFrame}
 use Rattle.rules.specs.Steps.{isStep}

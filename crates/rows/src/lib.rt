@@ -232,7 +232,7 @@ pub fn count_steps(words: &[u32]) -> Tally
 }
 
 // A frame number, if it is from the bound on and lower than the best so far.
-fn lower(f: FrameNo, from: FrameNo, best: FrameNo) -> FrameNo
+pub fn lower(f: FrameNo, from: FrameNo, best: FrameNo) -> FrameNo
     ensures { λ r. ⌜ r .0 ≡ lowerOf (f .0) (from .0) (best .0) ⌝ }
 {
     if f.0 < from.0 {

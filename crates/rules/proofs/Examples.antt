@@ -1,15 +1,15 @@
 -- Document 01, "Examples": P1 to P12 and the small ones, each as a row of a table, and one statement over each table, by computation.
 -- The rows CE2 and CE5 are 001's counterexamples 2 and 5 on records that S1 to S8 allow.
 use Prim.Native.Nat.{ℕ, _+_, _*_}
-use mathlib.Core.Bool.{Bool, true, false}
+use mathlib.Core.Bool.{Bool, false}
 use mathlib.Core.List.{List, [], _∷_, _++_, map, flatMap}
 use mathlib.Core.Path.{_≡_, refl}
-use lib.IntN.{ℤ, pos, negsuc, negℤ}
+use lib.IntN.{ℤ, pos, negℤ}
 use lib.ListN.{length, getD, replicate}
-use Rattle.rules.specs.Below.{someBelow, allBelow, count, earliest, latest, sum, tab, gather, rising}
+use Rattle.rules.specs.Below.{someBelow, allBelow, count, earliest, latest, sum, tab, gather}
 use Rattle.rules.specs.Rows.{Row, Table, none, docAt, isShown, inRecord, place, isFrame, withFlags, climb}
 use Rattle.rules.specs.Steps.{step, reach, position, steps, visible}
-use Rattle.rules.specs.Moves.{freshTable, opened, gone, without, hide, navigated, show, forward, backTarget, rowBefore, back, walked, shownDoc, changeRow, changes}
+use Rattle.rules.specs.Moves.{opened, gone, without, hide, navigated, show, forward, backTarget, rowBefore, back, walked, shownDoc, changeRow, changes}
 use Rattle.rules.specs.Words.{put, tableOf, rowsOf, wordsOf, written}
 use Rattle.rules.specs.Sound.{soundTable?, sound?}
 use Rattle.rules.specs.Asks.{takenList, upcomingList, stretched, outlineFrame, outlineOf}

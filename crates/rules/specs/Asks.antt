@@ -1,6 +1,6 @@
 -- What the questions answer (document 01, "The calls": Lists, Stretch, Outline).
 use Prim.Native.Nat.{ℕ, suc}
-use mathlib.Core.Bool.{Bool, true, false, _&&_, cond}
+use mathlib.Core.Bool.{Bool, _&&_, cond}
 use mathlib.Core.List.{List, [], _∷_, flatMap, reverse}
 use lib.Dec.{eqb, ltb}
 use lib.IntN.{ℤ, pos, negsuc, natAbs}

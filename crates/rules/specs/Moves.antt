@@ -1,6 +1,6 @@
 -- What the moves make of the rows (document 01, "The calls"; 001, definitions 2 and 3 with patches 1 to 4).
 use Prim.Native.Nat.{ℕ, zero, suc}
-use mathlib.Core.Bool.{Bool, true, false, not, _&&_, _||_, cond}
+use mathlib.Core.Bool.{Bool, false, not, _&&_, _||_, cond}
 use mathlib.Core.List.{List, [], _∷_, _++_, flatMap}
 use lib.Dec.{eqb}
 use lib.IntN.{ℤ, pos, negsuc}

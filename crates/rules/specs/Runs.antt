@@ -3,7 +3,7 @@ use Prim.Native.Nat.{ℕ}
 use mathlib.Core.List.{List, [], _∷_}
 use lib.IntN.{ℤ}
 use lib.ListN.{getD}
-use Rattle.rules.specs.Calls.{Call, Outcome, outcome}
+use Rattle.rules.specs.Calls.{Call, outcome}
 
 -- A call on the record that is at hand; change rows are lent to a traversal.
 pub data Move : Type 0 where

@@ -1,11 +1,11 @@
 -- The words of document 01, "Words".
 use Prim.Native.Nat.{ℕ}
-use mathlib.Core.Bool.{Bool, true, false, not, _&&_, _||_}
+use mathlib.Core.Bool.{Bool, false, not, _&&_, _||_}
 use mathlib.Core.List.{List}
 use lib.Dec.{eqb, leb}
 use lib.ListN.{length}
 use Rattle.rules.specs.Below.{someBelow, count}
-use Rattle.rules.specs.Rows.{Row, none, docAt, frameAt, parentAt, isShown, climb}
+use Rattle.rules.specs.Rows.{Row, none, frameAt, parentAt, isShown, climb}
 
 -- Places i and k are of one frame; fr tells the frames.
 abbrev pub same : (ℕ → ℕ) → ℕ → ℕ → Bool

@@ -1,14 +1,13 @@
 -- What the pass of the test tells, in the code's shape. Assumes nothing.
-use Prim.Native.Nat.{ℕ, zero, suc, _+_, _-_, _*_, _≤_, _<_}
-use mathlib.Core.Bool.{Bool, true, false, not, _&&_, _||_, So, cond}
+use Prim.Native.Nat.{ℕ, zero, _+_, _-_, _*_, _≤_, _<_}
+use mathlib.Core.Bool.{Bool, true, false, not, _&&_, _||_, cond}
 use mathlib.Core.List.{List}
-use mathlib.Core.Path.{_≡_, refl, sym, ap, ap₂, subst, _∙_}
+use mathlib.Core.Path.{_≡_, refl, sym, ap, subst, _∙_}
 use native.Mathlib.Numerals.{add-one}
 use native.Mathlib.Omega.{arith}
 use mir.Val.{boolByte}
 use lib.Dec.{eqb, leb, ltb}
 use lib.ListN.{length, getD}
-use borrow.Author.Needs.{needs}
 use borrow.Author.Tests.{eq-eqb, ne-eqb, lt-ltb, le-ltb}
 use Rattle.base.specs.declared.DocNo.{DocNo}
 use Rattle.base.specs.declared.FrameNo.{FrameNo}
@@ -27,7 +26,7 @@ use Rattle.laws.proofs.Tests.{test, clash, off, or-right, some-in, some-out, al
 use Rattle.laws.proofs.Loops.{count-more, count-within}
 use Rattle.rows.proofs.Scans.{found-at, found-nothing}
 use Rattle.rows.proofs.Tallies.{under-more}
-use Rattle.sound.specs.Quick.{ordered, linked, comes, calm, rowFine, evenly, quick?}
+use Rattle.sound.specs.Quick.{ordered, linked, comes, calm, rowFine, evenly}
 use Rattle.sound.specs.Pass.{lookOf, Passed}
 use Rattle.sound.specs.declared.Look.{Look}
 use Rattle.sound.specs.declared.Pass.{Pass}

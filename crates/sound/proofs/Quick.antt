@@ -16,7 +16,7 @@ use Rattle.rules.specs.Moves.{rowBefore}
 use Rattle.rules.specs.Sound.{S1, S2, S4, S5, S6, S7, s1?, SoundTable, soundTable?}
 use Rattle.laws.proofs.Tests.{test, clash, off, same-tests, by-lt, by-order, some-in, some-out}
 use Rattle.laws.proofs.Tests.{count-zero, count-yes, count-no, count-split, one-in, one-out, least, latest-is, latest-out}
-use Rattle.laws.proofs.Frames.{step-in, step-out, first, reach-in, reach-out}
+use Rattle.laws.proofs.Frames.{step-in, first, reach-in, reach-out}
 use Rattle.laws.proofs.Central.{only-shown}
 use Rattle.laws.proofs.Tree.{rising-all}
 use Rattle.laws.proofs.Reflect.{Ref, ref-lt, ref-le, ref-eq, ref-so, ref-map, ref-and, ref-all, sound-table-is}

@@ -1,8 +1,8 @@
 -- What the test answers, by the ways that it goes. Assumes nothing.
 use Prim.Native.Nat.{ℕ, _-_, _≤_, _<_}
-use mathlib.Core.Bool.{Bool, true, false, _&&_, So, and-eq-true-iff}
+use mathlib.Core.Bool.{Bool, true, false, _&&_, and-eq-true-iff}
 use mathlib.Core.List.{List}
-use mathlib.Core.Path.{_≡_, refl, sym, ap, subst, _∙_}
+use mathlib.Core.Path.{_≡_, refl, sym, ap, _∙_}
 use native.Mathlib.Omega.{arith}
 use lib.Dec.{ltb}
 use lib.ListN.{length}
@@ -10,7 +10,7 @@ use borrow.Author.Tests.{le-leb}
 use Rattle.rules.specs.Below.{allBelow}
 use Rattle.rules.specs.Rows.{Row, none, docAt}
 use Rattle.rules.specs.Words.{capacity, tableOf, rowsOf}
-use Rattle.rules.specs.Sound.{S1, s1?, s8?, soundTable?, Sound, sound?}
+use Rattle.rules.specs.Sound.{S1, s8?, soundTable?, sound?}
 use Rattle.laws.proofs.Tests.{test, off}
 use Rattle.laws.proofs.Reflect.{sound-is}
 use Rattle.sound.specs.Quick.{rowFine, evenly, quick?}

@@ -1,5 +1,5 @@
 -- `asks::climb` meets its contract: it calls itself at a lower row place, which is the measure. Assumes nothing.
-use mathlib.Core.Path.{_≡_, sym, _∙_}
+use mathlib.Core.Path.{sym, _∙_}
 use native.Mathlib.Omega.{arith}
 use Prim.Native.Nat.{ℕ, _<_}
 use borrow.Author.Needs.{needs}

@@ -2,7 +2,6 @@
 use denote.Ref.{now}
 use mir.Syntax.{w32}
 use mir.ValLaws.{toZ-ofZ}
-use borrow.Author.Needs.{needs}
 use Rattle.asks.proofs.Answered.{own-first, own-second}
 use Rattle.asks.proofs.own_list.Statement.{statement}
 use Rattle.asks.proofs.own_list.Tie as tie

@@ -2,9 +2,7 @@
 use lib.ListN.{length}
 use mathlib.Core.Path.{ap, _∙_}
 use native.Mathlib.Omega.{arith}
-use borrow.Author.Needs.{needs}
 use denote.Ref.{now}
-use Rattle.rules.specs.Words.{rowsOf}
 use Rattle.laws.proofs.Writes.{length-put}
 use Rattle.sound.proofs.Checks.{examined-long}
 use Rattle.moves.proofs.Ways.{opening, open-done}

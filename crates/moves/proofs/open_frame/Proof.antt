@@ -1,6 +1,5 @@
 -- `moves::open_frame` meets its contract. Assumes nothing.
 use borrow.Author.Needs.{needs}
-use denote.Ref.{now}
 use Rattle.sound.proofs.Checks.{judged-fine, judged-refused}
 use Rattle.moves.proofs.open_frame.Statement.{statement}
 use Rattle.moves.proofs.open_frame.Tie as tie

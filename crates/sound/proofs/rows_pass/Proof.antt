@@ -1,7 +1,6 @@
 -- `sound::rows_pass` meets its contract. Assumes nothing.
 use borrow.Author.Tests.{not-true}
 use Prim.Native.Nat.{_≤_, _-_}
-use mathlib.Core.Path.{_≡_}
 use native.Mathlib.Omega.{arith}
 use borrow.Author.Needs.{needs}
 use denote.Ref.{now}

@@ -1,0 +1,366 @@
+// Document 01's P1 to P12, run: every call's answer, and of the record at the end its position and the visible documents.
+use asks::Sight;
+use asks::Standing;
+use base::DocNo;
+use base::Refusal;
+use moves::Freshened;
+use moves::Opened;
+use navigates::Navigated;
+use traverses::Traversed;
+
+// No parent.
+const NONE: u32 = 4294967295;
+
+// Writes text.
+fn say(text: &[u8]) {
+    io::write_all(1, text);
+}
+
+// Writes a number.
+fn say_number(n: u64) {
+    io::print_decimal(1, n);
+}
+
+// Writes a word as a number.
+fn say_word(x: u32) {
+    say_number(x as u64);
+}
+
+// Writes a refusal's number.
+fn say_refused(r: Refusal) {
+    say(b"refused ");
+    say_number(base::refusal_number(r) as u64);
+    say(b"\n");
+}
+
+// Fresh, told.
+fn fresh(words: &mut [u32]) {
+    say(b"  fresh: ");
+    match moves::fresh(words) {
+        Freshened::Done => say(b"done\n"),
+        Freshened::Refused(r) => say_refused(r),
+    }
+}
+
+// Open, told.
+fn open(words: &mut [u32], parent: u32) {
+    say(b"  open ");
+    say_number(parent as u64);
+    say(b": ");
+    match moves::open_frame(words, DocNo(parent)) {
+        Opened::Numbers(d, f) => {
+            say(b"document ");
+            say_number(d.0 as u64);
+            say(b", frame ");
+            say_number(f.0 as u64);
+            say(b"\n");
+        }
+        Opened::Refused(r) => say_refused(r),
+    }
+}
+
+// Navigate, told.
+fn navigate(words: &mut [u32], from: u32) {
+    say(b"  navigate ");
+    say_number(from as u64);
+    say(b": ");
+    match navigates::navigate(words, DocNo(from)) {
+        Navigated::Arrived(d) => {
+            say(b"document ");
+            say_number(d.0 as u64);
+            say(b"\n");
+        }
+        Navigated::Refused(r) => say_refused(r),
+    }
+}
+
+// The sign and magnitude of an amount.
+fn say_amount(delta: i32) {
+    if delta < 0 {
+        say(b"-");
+    } else {
+        say(b"+");
+    }
+    say_number(base::magnitude(delta) as u64);
+}
+
+// A change row.
+fn say_change(row: &[u32; 4]) {
+    say(b" (");
+    say_word(row[0]);
+    say(b", ");
+    say_word(row[1]);
+    say(b", ");
+    say_word(row[2]);
+    say(b", ");
+    say_word(row[3]);
+    say(b")\n");
+}
+
+// Traverse, told, with one change row.
+fn go(words: &mut [u32], delta: i32) {
+    say(b"  go ");
+    say_amount(delta);
+    say(b": ");
+    let mut row = [9u32; 4];
+    match traverses::traverse(words, delta, &mut row) {
+        Traversed::Changes(n) => {
+            say_number(n as u64);
+            say(b" changed");
+            say_change(&row);
+        }
+        Traversed::Refused(r) => say_refused(r),
+    }
+}
+
+// A document, if it is visible.
+fn say_visible(words: &[u32], d: u32) {
+    match asks::visible(words, DocNo(d)) {
+        Sight::Visible => {
+            say(b" ");
+            say_number(d as u64);
+        }
+        _ => {}
+    }
+}
+
+// Those of documents 0 to 6 that are visible.
+fn say_documents(words: &[u32]) {
+    say_visible(words, 0);
+    say_visible(words, 1);
+    say_visible(words, 2);
+    say_visible(words, 3);
+    say_visible(words, 4);
+    say_visible(words, 5);
+    say_visible(words, 6);
+}
+
+// Position, steps and visible documents of a record.
+fn stand(words: &[u32]) {
+    match asks::position(words) {
+        Standing::At(p, s, _) => {
+            say(b"  position ");
+            say_number(p as u64);
+            say(b" of ");
+            say_number(s as u64);
+            say(b", visible");
+            say_documents(words);
+            say(b"\n");
+        }
+        Standing::Refused(r) => {
+            say(b"  position: ");
+            say_refused(r);
+        }
+    }
+}
+
+// Document 01's record X.
+fn record_x() -> [u32; 35] {
+    [
+        6,
+        6,
+        4,
+        0,
+        0,
+        NONE,
+        1,
+        1,
+        1,
+        0,
+        1,
+        2,
+        2,
+        1,
+        0,
+        3,
+        3,
+        0,
+        1,
+        4,
+        2,
+        1,
+        1,
+        5,
+        1,
+        0,
+        0,
+        0,
+        0,
+        0,
+        0,
+        0,
+        0,
+        0,
+        0,
+    ]
+}
+
+// "P1. X: sound, position 1 of 2, visible 0,1,3,4."
+fn p1() {
+    say(b"P1\n");
+    stand(&record_x());
+}
+
+// "P2. X by -1: 2 shown instead of 4; one change row (2, 4, 2, 1)."
+fn p2() {
+    say(b"P2\n");
+    let mut words = record_x();
+    go(&mut words, -1);
+    stand(&words);
+}
+
+// "P3. X by +1: row (1, 1, 5, 1); 4 is shown, not visible."
+fn p3() {
+    say(b"P3\n");
+    let mut words = record_x();
+    go(&mut words, 1);
+    stand(&words);
+}
+
+// "P4. X by +2, and by -2: refused 6."
+fn p4() {
+    say(b"P4\n");
+    let mut words = record_x();
+    go(&mut words, 2);
+    go(&mut words, -2);
+    stand(&words);
+}
+
+// "P5. X by -2147483648: refused 6."
+fn p5() {
+    say(b"P5\n");
+    let mut words = record_x();
+    go(&mut words, -2147483648);
+    stand(&words);
+}
+
+// "P6. Navigate X from 1: 5 goes, 6 comes, position 2 of 2, visible 0,3,6."
+// "P7. P6 by -1: visible 0,1,3,4."
+fn p6_and_p7() {
+    say(b"P6\n");
+    let mut words = record_x();
+    navigate(&mut words, 1);
+    stand(&words);
+    say(b"P7\n");
+    go(&mut words, -1);
+    stand(&words);
+}
+
+// "P8. Navigate X from 2: refused 5; from 9: refused 4."
+fn p8() {
+    say(b"P8\n");
+    let mut words = record_x();
+    navigate(&mut words, 2);
+    navigate(&mut words, 9);
+    stand(&words);
+}
+
+// "P9. [..] refused 2 (S7)."
+fn p9() {
+    say(b"P9\n");
+    let words = [
+        5u32,
+        5,
+        3,
+        0,
+        0,
+        NONE,
+        1,
+        1,
+        1,
+        0,
+        1,
+        2,
+        2,
+        0,
+        0,
+        3,
+        1,
+        0,
+        0,
+        4,
+        2,
+        0,
+        1,
+        0,
+        0,
+        0,
+        0,
+        0,
+        0,
+        0,
+        0,
+        0,
+        0,
+        0,
+        0,
+    ];
+    stand(&words);
+}
+
+// "P10. C = 8; fresh, open 0, navigate 0, open 2, by -1: visible 0,1."
+// "P11. P10, navigate 1: 2 and 3 go, the new one is 4." "The visible set does return."
+fn p10_and_p11() {
+    say(b"P10\n");
+    let mut words = [7u32; 35];
+    fresh(&mut words);
+    open(&mut words, 0);
+    navigate(&mut words, 0);
+    open(&mut words, 2);
+    go(&mut words, -1);
+    stand(&words);
+    say(b"P11\n");
+    navigate(&mut words, 1);
+    stand(&words);
+    go(&mut words, -1);
+    stand(&words);
+}
+
+// "P12. C = 3; fresh, open 0, navigate 1, navigate 2: the last refused 7."
+fn p12() {
+    say(b"P12\n");
+    let mut words = [7u32; 15];
+    fresh(&mut words);
+    open(&mut words, 0);
+    navigate(&mut words, 1);
+    navigate(&mut words, 2);
+    stand(&words);
+}
+
+// "Instead by -1, navigate 1: accepted, number 3."
+fn p12_instead() {
+    say(b"P12, instead\n");
+    let mut words = [7u32; 15];
+    fresh(&mut words);
+    open(&mut words, 0);
+    navigate(&mut words, 1);
+    go(&mut words, -1);
+    navigate(&mut words, 1);
+    stand(&words);
+}
+
+// Record of 6 words, and of 7.
+fn small_records() {
+    say(b"6 words\n");
+    let mut six = [7u32; 6];
+    fresh(&mut six);
+    say(b"7 words\n");
+    let mut seven = [7u32; 7];
+    fresh(&mut seven);
+    open(&mut seven, 0);
+}
+
+fn main() {
+    p1();
+    p2();
+    p3();
+    p4();
+    p5();
+    p6_and_p7();
+    p8();
+    p9();
+    p10_and_p11();
+    p12();
+    p12_instead();
+    small_records();
+}

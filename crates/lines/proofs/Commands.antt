@@ -1,0 +1,59 @@
+-- What a line asks, test by test. In each, b is what the test answered. Assumes nothing.
+use Prim.Native.Nat.{ℕ, _-_, _≤_, _<_}
+use mathlib.Core.Bool.{Bool, true, false}
+use mathlib.Core.List.{List}
+use mathlib.Core.Path.{_≡_, refl, sym, _∙_}
+use native.Mathlib.Omega.{arith}
+use lib.ListN.{length, drop, take, length-drop}
+use lib.Seq.{take-all}
+use borrow.Author.Tests.{lt-ltb, le-ltb}
+use Rattle.laws.proofs.Tests.{by-lt, clash}
+use Rattle.lines.specs.Decimal.{numeral}
+use Rattle.lines.specs.Lines.{Command, openWord, navWord, goWord, starts?, minus?, opening, navigating, forth, back, going, worded, parse}
+use Rattle.lines.specs.declared.Number.{Number}
+use Rattle.lines.proofs.Numerals.{minus-empty}
+
+-- A part to the end.
+pub to-end : (text : List ℕ) (i : ℕ) → i ≤ length text → take (length text - i) (drop i text) ≡ drop i text
+to-end text i l = take-all (length text - i) (drop i text) (omega (arith, length-drop i text))
+
+module _ (text : List ℕ) where
+  -- Where there is a minus there is a byte.
+  pub minus-long : (b : Bool) → b ≡ minus? text → b ≡ true → 1 ≤ length text
+  minus-long b e t = by-lt 0 (length text) (λ l. l) (λ l. absurd (clash (sym e ∙ t) (sym (minus-empty text (omega arith)))))
+
+  pub going-back : (b : Bool) (n : Number) (r : Command) → b ≡ minus? text → b ≡ true → n ≡ numeral 2147483648 (drop 1 text) → r ≡ back n → r ≡ going text
+  unfolding going
+  going-back b n r e t f h = rw (← e, t, ← f) h
+
+  pub going-forth : (b : Bool) (n : Number) (r : Command) → b ≡ minus? text → b ≡ false → n ≡ numeral 2147483647 text → r ≡ forth n → r ≡ going text
+  unfolding going
+  going-forth b n r e t f h = rw (← e, t, ← f) h
+
+module _ (line : List ℕ) (a : Bool) (e : a ≡ starts? openWord line) where
+  pub worded-open : (n : Number) (r : Command) → a ≡ true → n ≡ numeral 4294967295 (drop 5 line) → r ≡ opening n → r ≡ worded line
+  unfolding worded
+  worded-open n r t f h = rw (← e, t, ← f) h
+
+  module _ (x : a ≡ false) (b : Bool) (f : b ≡ starts? navWord line) where
+    pub worded-nav : (n : Number) (r : Command) → b ≡ true → n ≡ numeral 4294967295 (drop 4 line) → r ≡ navigating n → r ≡ worded line
+    unfolding worded
+    worded-nav n r t g h = rw (← e, x, ← f, t, ← g) h
+
+    module _ (y : b ≡ false) (d : Bool) (g : d ≡ starts? goWord line) where
+      pub worded-go : (r : Command) → d ≡ true → r ≡ going (drop 3 line) → r ≡ worded line
+      unfolding worded
+      worded-go r t h = rw (← e, x, ← f, y, ← g, t) h
+
+      pub worded-bad : d ≡ false → Command.bad ≡ worded line
+      unfolding worded
+      worded-bad t = rw (← e, x, ← f, y, ← g, t) refl
+
+module _ (line : List ℕ) where
+  pub parse-long : 64 < length line → Command.bad ≡ parse line
+  unfolding parse
+  parse-long l = rw (lt-ltb 64 (length line) l) refl
+
+  pub parse-words : (r : Command) → length line ≤ 64 → r ≡ worded line → r ≡ parse line
+  unfolding parse
+  parse-words r l h = rw (le-ltb 64 (length line) l) h

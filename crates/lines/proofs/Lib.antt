@@ -1,0 +1,9 @@
+pub mod Numerals
+pub mod Signs
+pub mod Firsts
+pub mod Commands
+pub mod Texts
+pub mod Answers
+pub mod Spelling
+pub mod Trips
+pub mod Examples

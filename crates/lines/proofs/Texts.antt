@@ -1,0 +1,158 @@
+-- Writing: a decimal's digits, one text after another, and the room they take. Assumes nothing.
+use Prim.Native.Nat.{ℕ, zero, suc, _+_, _*_, _/_, _%_, _≤_, _<_}
+use mathlib.Core.List.{List, [], _∷_, _++_}
+use mathlib.Core.Path.{_≡_, refl, sym, ap, subst, _∙_}
+use native.Mathlib.Omega.{arith}
+use lib.ListN.{length, set, length-append}
+use borrow.Author.Tests.{lt-ltb, le-ltb}
+use Rattle.rules.specs.Words.{put}
+use Rattle.laws.proofs.Tests.{by-lt}
+use Rattle.laws.proofs.Writes.{length-put, put-put}
+use Rattle.lines.specs.Decimal.{decimalBy, decimal}
+use Rattle.lines.specs.Reply.{statusText, Wrote}
+
+-- DECIMALS
+
+-- Any fuel above the number will do.
+decimal-fuel : (a b n : ℕ) → n < a → n < b → decimalBy a n ≡ decimalBy b n
+unfolding decimalBy
+decimal-fuel zero b n l m = absurd (omega arith)
+decimal-fuel (suc a) zero n l m = absurd (omega arith)
+decimal-fuel (suc a) (suc b) n l m =
+    by-lt n 10
+    (λ s. rw (lt-ltb n 10 s) refl)
+    (λ s. rw (le-ltb n 10 s) (ap (λ t. t ++ ((48 + n % 10) ∷ [])) (decimal-fuel a b (n / 10) (omega arith) (omega arith))))
+
+-- A single digit.
+pub decimal-one : (n : ℕ) → n < 10 → decimal n ≡ (48 + n) ∷ []
+unfolding decimal decimalBy
+decimal-one n l = rw (lt-ltb n 10 l) refl
+
+-- The digits before the last, and the last.
+pub decimal-more : (n : ℕ) → 10 ≤ n → decimal n ≡ decimal (n / 10) ++ ((48 + n % 10) ∷ [])
+unfolding decimal decimalBy
+decimal-more n l = rw (le-ltb n 10 l) (ap (λ t. t ++ ((48 + n % 10) ∷ [])) (decimal-fuel n (suc (n / 10)) (n / 10) (omega arith) (omega arith)))
+
+-- ONE AFTER ANOTHER
+
+module _ (old : List ℕ) (at : ℕ) where
+  pub wrote-then : (vs ws mid new : List ℕ) (k next : ℕ) → Wrote old at vs mid k → Wrote mid k ws new next → Wrote old at (vs ++ ws) new next
+  wrote-then vs ws mid new k next v w =
+      record {
+        list =
+            w .list ∙ ap (λ m. put m k ws) (v .list) ∙ ap (λ j. put (put old at vs) j ws) (v .past) ∙ put-put vs ws old at;
+        past = rw length-append (omega (arith, v .past, w .past));
+      }
+
+  -- The room that is left.
+  pub wrote-room : (vs ws mid : List ℕ) (k : ℕ) → Wrote old at vs mid k → at + length (vs ++ ws) ≤ length old → k + length ws ≤ length mid
+  wrote-room vs ws mid k v l = let e = ap length (v .list) ∙ length-put old at vs in omega (arith, e, v .past, rw length-append at l)
+
+-- The place after a text that ends before the run does.
+pub wrote-below : (old vs mid : List ℕ) (at k : ℕ) → Wrote old at vs mid k → at + length vs < length old → k < length mid
+wrote-below old vs mid at k v l = let e = ap length (v .list) ∙ length-put old at vs in omega (arith, e, v .past)
+
+-- Two bytes.
+pub put-two : (l : List ℕ) (i a b : ℕ) → set (set l i a) (i + 1) b ≡ put l i (a ∷ b ∷ [])
+unfolding put
+put-two l i a b = let e : i + 1 ≡ suc i = omega arith in rw e refl
+
+-- A decimal as the code writes it.
+pub wrote-one : (old new : List ℕ) (at n g next : ℕ) → n < 10 → g ≡ 48 + n → Wrote old at (g ∷ []) new next → Wrote old at (decimal n) new next
+wrote-one old new at n g next l e w = rw (decimal-one n l, ← e) w
+
+pub wrote-more : (old mid new : List ℕ) (at n g k next : ℕ) → 10 ≤ n → g ≡ 48 + n % 10 → Wrote old at (decimal (n / 10)) mid k → Wrote mid k (g ∷ []) new next → Wrote old at (decimal n) new next
+wrote-more old mid new at n g k next l e v w =
+    subst (λ t. Wrote old at t new next) (ap (λ d. decimal (n / 10) ++ (d ∷ [])) e ∙ sym (decimal-more n l)) (wrote-then old at _ _ mid new k next v w)
+
+-- The room that a decimal takes, for the code's two ways.
+module _ (at n m : ℕ) (room : at + length (decimal n) ≤ m) where
+  pub room-one : n < 10 → at < m
+  room-one l = omega (arith, ap length (decimal-one n l))
+
+  pub room-more : 10 ≤ n → at + length (decimal (n / 10)) < m
+  room-more l = omega (arith, ap length (decimal-more n l) ∙ length-append (decimal (n / 10)) ((48 + n % 10) ∷ []))
+
+-- A STATUS LINE: two letters, then three numbers with a byte before each, then the newline.
+
+front-room : (k m : ℕ) (vs ws : List ℕ) → k + length (vs ++ ws) ≤ m → k + length vs ≤ m
+front-room k m vs ws l = omega (arith, rw length-append at l)
+
+module _ (old : List ℕ) (at a b n p s : ℕ) (room : at + length (statusText a b n p s) ≤ length old) where
+  abbrev last : List ℕ
+  last = 10 ∷ []
+
+  abbrev third : List ℕ
+  third = (47 ∷ decimal s) ++ last
+
+  abbrev second : List ℕ
+  second = (32 ∷ decimal p) ++ third
+
+  abbrev first : List ℕ
+  first = (32 ∷ decimal n) ++ second
+
+  all : at + length ((a ∷ b ∷ []) ++ first) ≤ length old
+  unfolding statusText
+  all = room
+
+  pub room-letters : at + 2 ≤ length old
+  room-letters = front-room at (length old) (a ∷ b ∷ []) first all
+
+  module _ (m1 : List ℕ) (k1 : ℕ) (w1 : Wrote old at (a ∷ b ∷ []) m1 k1) where
+    left1 : k1 + length first ≤ length m1
+    left1 = wrote-room old at (a ∷ b ∷ []) first m1 k1 w1 all
+
+    pub room-first : k1 + length (32 ∷ decimal n) ≤ length m1
+    room-first = front-room k1 (length m1) (32 ∷ decimal n) second left1
+
+    module _ (m2 : List ℕ) (k2 : ℕ) (w2 : Wrote m1 k1 (32 ∷ decimal n) m2 k2) where
+      left2 : k2 + length second ≤ length m2
+      left2 = wrote-room m1 k1 (32 ∷ decimal n) second m2 k2 w2 left1
+
+      pub room-second : k2 + length (32 ∷ decimal p) ≤ length m2
+      room-second = front-room k2 (length m2) (32 ∷ decimal p) third left2
+
+      module _ (m3 : List ℕ) (k3 : ℕ) (w3 : Wrote m2 k2 (32 ∷ decimal p) m3 k3) where
+        left3 : k3 + length third ≤ length m3
+        left3 = wrote-room m2 k2 (32 ∷ decimal p) third m3 k3 w3 left2
+
+        pub room-third : k3 + length (47 ∷ decimal s) ≤ length m3
+        room-third = front-room k3 (length m3) (47 ∷ decimal s) last left3
+
+        module _ (m4 : List ℕ) (k4 : ℕ) (w4 : Wrote m3 k3 (47 ∷ decimal s) m4 k4) where
+          pub room-last : k4 < length m4
+          room-last = let l = wrote-room m3 k3 (47 ∷ decimal s) last m4 k4 w4 left3 in omega arith
+
+          pub wrote-status : (m5 : List ℕ) (k5 : ℕ) → Wrote m4 k4 (10 ∷ []) m5 k5 → Wrote old at (statusText a b n p s) m5 k5
+          unfolding statusText
+          wrote-status m5 k5 w5 =
+              wrote-then old at (a ∷ b ∷ []) first m1 m5 k1 k5 w1
+              (wrote-then m1 k1 (32 ∷ decimal n) second m2 m5 k2 k5 w2
+              (wrote-then m2 k2 (32 ∷ decimal p) third m3 m5 k3 k5 w3
+              (wrote-then m3 k3 (47 ∷ decimal s) last m4 m5 k4 k5 w4 w5)))
+
+-- HOW LONG
+
+-- 10 to the k.
+abbrev pub tens : ℕ → ℕ
+tens zero = 1
+tens (suc k) = tens k * 10
+
+-- A number below 10 to the k + 1 has at most k + 1 digits.
+pub decimal-within : (k n : ℕ) → n < tens (suc k) → length (decimal n) ≤ suc k
+decimal-within zero n l = omega (arith, ap length (decimal-one n (omega arith)))
+decimal-within (suc k) n l =
+    by-lt n 10
+    (λ a. omega (arith, ap length (decimal-one n a)))
+    (λ a.
+    let h = decimal-within k (n / 10) (omega arith) in
+    omega (arith, ap length (decimal-more n a) ∙ length-append (decimal (n / 10)) ((48 + n % 10) ∷ [])))
+
+-- A status line of three numbers of 64 bits has at most 66 bytes: "enough room" for any answer.
+pub status-within : (a b n p s : ℕ) → n < tens 20 → p < tens 20 → s < tens 20 → length (statusText a b n p s) ≤ 66
+unfolding statusText
+status-within a b n p s x y z =
+    let i = decimal-within 19 n x in
+    let j = decimal-within 19 p y in
+    let k = decimal-within 19 s z in
+    simp length-append (omega arith)

@@ -1,0 +1,145 @@
+-- `parse` and `printed` undo each other: every command in range is read from its line, and a line that is read is the line of its command. Assumes nothing.
+use Prim.Native.Nat.{ℕ, zero, suc, _≤_}
+use mathlib.Core.Bool.{true, false, and-eq-true-iff}
+use mathlib.Core.List.{List, [], _∷_, _++_}
+use mathlib.Core.Path.{_≡_, refl, sym, ap, subst, _∙_}
+use native.Mathlib.Omega.{arith}
+use lib.Dec.{ltb}
+use lib.IntN.{ℤ, pos, negsuc}
+use lib.ListN.{length, getD, take, drop, length-append, List·getD-append, take-append-drop, length-take}
+use lib.Seq.{ext-getD, getD-take}
+use borrow.Author.Tests.{le-ltb, le-leb, leb-true, eqb-true, eq-eqb, ne-eqb}
+use Rattle.laws.proofs.Tests.{test, all-in, all-out}
+use Rattle.lines.specs.Decimal.{decimal, signed, numeral}
+use Rattle.lines.specs.Lines.{Command, InRange, openWord, navWord, goWord, starts?, minus?, opening, navigating, forth, back, going, worded, parse, printed}
+use Rattle.lines.specs.declared.Number.{Number}
+use Rattle.lines.specs.declared.Number.the-variants.{Is, Nothing}
+use Rattle.lines.proofs.Firsts.{starts-not}
+use Rattle.lines.proofs.Texts.{decimal-within}
+use Rattle.lines.proofs.Spelling.{spells, numeral-decimal, numeral-only}
+
+-- A word and what follows it.
+starts-word : (word rest : List ℕ) → starts? word (word ++ rest) ≡ true
+unfolding starts?
+starts-word word rest =
+    let l : length word ≤ length (word ++ rest) = omega (arith, length-append word rest) in
+    simp and-eq-true-iff (le-leb _ _ l, all-in _ (length word) (λ k m. eq-eqb _ _ (List·getD-append word rest 0 k m)))
+
+word-starts : (word line : List ℕ) → starts? word line ≡ true → line ≡ word ++ drop (length word) line
+unfolding starts?
+word-starts word line h =
+    let p = simp and-eq-true-iff at h in
+    let l : length word ≤ length line = leb-true _ _ (p .0) in
+    let m : length (take (length word) line) ≡ length word = length-take (length word) line ∙ omega arith in
+    let e : take (length word) line ≡ word =
+    ext-getD 0 _ _ m (λ i a. getD-take (length word) line i 0 (omega arith) ∙ eqb-true _ _ (all-out _ (length word) (p .1) i (omega arith))) in
+    sym (take-append-drop (length word) line) ∙ ap (λ t. t ++ drop (length word) line) e
+
+-- EVERY COMMAND IS READ
+
+-- A decimal of 32 bits has at most 10 digits.
+ten : (n : ℕ) → n ≤ 4294967295 → length (decimal n) ≤ 10
+ten n l = decimal-within 9 n (omega arith)
+
+-- A decimal starts with no minus.
+no-minus : (n : ℕ) → minus? (decimal n) ≡ false
+no-minus n = let s = spells n in let d = s .digits 0 (s .some) in ne-eqb (getD (decimal n) 0 0) 45 (λ e. omega arith)
+
+going-signed : (δ : ℤ) → InRange (Command.goes δ) → going (signed δ) ≡ Command.goes δ
+unfolding going
+going-signed (pos n) l = rw (no-minus n, numeral-decimal 2147483647 n l) refl
+going-signed (negsuc n) l = rw (numeral-decimal 2147483648 (suc n) l) refl
+
+signed-length : (δ : ℤ) → InRange (Command.goes δ) → length (signed δ) ≤ 11
+signed-length (pos n) l = let t = ten n (omega arith) in omega arith
+signed-length (negsuc n) l = let t = ten (suc n) (omega arith) in omega arith
+
+short : (line : List ℕ) (c : Command) → length line ≤ 64 → worded line ≡ c → parse line ≡ c
+unfolding parse
+short line c l e = rw (le-ltb 64 (length line) l) e
+
+worded-empty : worded [] ≡ Command.bad
+unfolding worded starts?
+worded-empty = refl
+
+pub parse-printed : (c : Command) → InRange c → parse (printed c) ≡ c
+unfolding printed worded
+parse-printed (Command.opens d) l =
+    let t = ten d l in
+    short (openWord ++ decimal d) _ (omega arith) (rw (starts-word openWord (decimal d), numeral-decimal 4294967295 d l) refl)
+parse-printed (Command.navs d) l =
+    let t = ten d l in
+    let o = sym (starts-not openWord (navWord ++ decimal d) 0 (omega arith) (λ e. omega arith)) in
+    short (navWord ++ decimal d) _ (omega arith) (rw (o, starts-word navWord (decimal d), numeral-decimal 4294967295 d l) refl)
+parse-printed (Command.goes δ) l =
+    let t = signed-length δ l in
+    let o = sym (starts-not openWord (goWord ++ signed δ) 0 (omega arith) (λ e. omega arith)) in
+    let n = sym (starts-not navWord (goWord ++ signed δ) 0 (omega arith) (λ e. omega arith)) in
+    short (goWord ++ signed δ) _ (omega arith) (rw (o, n, starts-word goWord (signed δ)) (going-signed δ l))
+parse-printed Command.bad l = short [] _ (omega arith) worded-empty
+
+-- ONLY THESE LINES ARE READ
+
+-- What a line is that is read as a command: its line, and in range.
+pub record Line (line : List ℕ) (c : Command) : Type 0 where
+  pub text : line ≡ printed c
+  pub fits : InRange c
+
+-- A command that is not bad.
+abbrev Good : Command → Type 0
+Good c = c ≡ Command.bad → ⊥
+
+opening-only : (line : List ℕ) (k : Number) → line ≡ openWord ++ drop 5 line → k ≡ numeral 4294967295 (drop 5 line) → Good (opening k) → Line line (opening k)
+unfolding printed
+opening-only line (Is d) w e g = let o = numeral-only _ _ d (sym e) in record { text = w ∙ ap (λ t. openWord ++ t) (o .0); fits = o .1 }
+opening-only line Nothing w e g = absurd (g refl)
+
+navigating-only : (line : List ℕ) (k : Number) → line ≡ navWord ++ drop 4 line → k ≡ numeral 4294967295 (drop 4 line) → Good (navigating k) → Line line (navigating k)
+unfolding printed
+navigating-only line (Is d) w e g = let o = numeral-only _ _ d (sym e) in record { text = w ∙ ap (λ t. navWord ++ t) (o .0); fits = o .1 }
+navigating-only line Nothing w e g = absurd (g refl)
+
+forth-only : (line : List ℕ) (k : Number) → line ≡ goWord ++ drop 3 line → k ≡ numeral 2147483647 (drop 3 line) → Good (forth k) → Line line (forth k)
+unfolding printed
+forth-only line (Is n) w e g = let o = numeral-only _ _ n (sym e) in record { text = w ∙ ap (λ t. goWord ++ t) (o .0); fits = o .1 }
+forth-only line Nothing w e g = absurd (g refl)
+
+-- A text with a minus is a minus and the rest.
+minus-rest : (text : List ℕ) → minus? text ≡ true → text ≡ 45 ∷ drop 1 text
+minus-rest [] m = let z : _≡_ {A = ℕ} 0 45 = eqb-true 0 45 m in absurd (omega arith)
+minus-rest (b ∷ text) m = ap (λ a. a ∷ text) (eqb-true b 45 m)
+
+back-only : (line : List ℕ) (k : Number) → line ≡ goWord ++ (45 ∷ drop 1 (drop 3 line)) → k ≡ numeral 2147483648 (drop 1 (drop 3 line)) → Good (back k) → Line line (back k)
+unfolding printed
+back-only line (Is zero) w e g = absurd (g refl)
+back-only line (Is (suc n)) w e g =
+    let o = numeral-only _ _ (suc n) (sym e) in record { text = w ∙ ap (λ t. goWord ++ (45 ∷ t)) (o .0); fits = o .1 }
+back-only line Nothing w e g = absurd (g refl)
+
+going-only : (line : List ℕ) → line ≡ goWord ++ drop 3 line → Good (going (drop 3 line)) → Line line (going (drop 3 line))
+unfolding going
+going-only line w g =
+    test (minus? (drop 3 line))
+    (λ m. rw m (back-only line _ (w ∙ ap (λ t. goWord ++ t) (minus-rest (drop 3 line) m)) refl (rw m at g)))
+    (λ m. rw m (forth-only line _ w refl (rw m at g)))
+
+worded-only : (line : List ℕ) → Good (worded line) → Line line (worded line)
+unfolding worded
+worded-only line g =
+    test (starts? openWord line)
+    (λ o. rw o (opening-only line _ (word-starts openWord line o) refl (rw o at g)))
+    (λ o.
+    test (starts? navWord line)
+    (λ n. rw (o, n) (navigating-only line _ (word-starts navWord line n) refl (rw (o, n) at g)))
+    (λ n.
+    test (starts? goWord line)
+    (λ k. rw (o, n, k) (going-only line (word-starts goWord line k) (rw (o, n, k) at g)))
+    (λ k. absurd ((rw (o, n, k) at g) refl))))
+
+-- "Any other line prints `bad`."
+pub parse-only : (line : List ℕ) (c : Command) → parse line ≡ c → (c ≡ Command.bad → ⊥) → Line line c
+unfolding parse
+parse-only line c e g =
+    test (ltb 64 (length line))
+    (λ t. absurd (g (sym (rw t at e))))
+    (λ t. let f : worded line ≡ c = rw t at e in subst (Line line) f (worded-only line (λ b. g (sym f ∙ b))))

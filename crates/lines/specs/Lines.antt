@@ -1,0 +1,102 @@
+-- One line of a script, without its newline: "Lines `open P`, `nav D`, `go N` [..] at most 64 bytes".
+use Prim.Native.Nat.{ℕ, zero, suc, _≤_, _<_}
+use mathlib.Core.Bool.{Bool, _&&_, cond}
+use mathlib.Core.List.{List, [], _∷_, _++_}
+use lib.Dec.{eqb, leb, ltb}
+use lib.IntN.{ℤ, pos, negsuc}
+use lib.ListN.{length, getD, drop}
+use Rattle.rules.specs.Below.{allBelow}
+use Rattle.lines.specs.Decimal.{numeral, decimal, signed}
+use Rattle.lines.specs.declared.Number.{Number}
+use Rattle.lines.specs.declared.Number.the-variants.{Is, Nothing}
+use Rattle.lines.specs.declared.Command.{Command as Read}
+use Rattle.lines.specs.declared.Command.the-variants as Reads
+
+-- What a line asks. `d` is a document, `δ` an amount.
+pub data Command : Type 0 where
+  opens : (d : ℕ) → Command
+  navs : (d : ℕ) → Command
+  goes : (δ : ℤ) → Command
+  bad : Command
+
+-- `open `
+abbrev pub openWord : List ℕ
+openWord = 111 ∷ 112 ∷ 101 ∷ 110 ∷ 32 ∷ []
+
+-- `nav `
+abbrev pub navWord : List ℕ
+navWord = 110 ∷ 97 ∷ 118 ∷ 32 ∷ []
+
+-- `go `
+abbrev pub goWord : List ℕ
+goWord = 103 ∷ 111 ∷ 32 ∷ []
+
+-- A line starts with a word.
+unfoldable pub starts? : List ℕ → List ℕ → Bool
+starts? word line = leb (length word) (length line) && allBelow (length word) (λ i. eqb (getD line i 0) (getD word i 0))
+
+-- A text starts with a minus.
+abbrev pub minus? : List ℕ → Bool
+minus? text = eqb (getD text 0 0) 45
+
+-- What a number asks after `open `; where there is none, the line is another line.
+abbrev pub opening : Number → Command
+opening (Is d) = Command.opens d
+opening Nothing = Command.bad
+
+-- What a number asks after `nav `.
+abbrev pub navigating : Number → Command
+navigating (Is d) = Command.navs d
+navigating Nothing = Command.bad
+
+-- What a number asks after `go `.
+abbrev pub forth : Number → Command
+forth (Is n) = Command.goes (pos n)
+forth Nothing = Command.bad
+
+-- Back by a number: "never `-0`".
+abbrev pub backBy : ℕ → Command
+backBy zero = Command.bad
+backBy (suc n) = Command.goes (negsuc n)
+
+-- What a number asks after `go -`.
+abbrev pub back : Number → Command
+back (Is n) = backBy n
+back Nothing = Command.bad
+
+-- What a text asks after `go `: "minus only after `go` [..] N fits 32 bits signed".
+unfoldable pub going : List ℕ → Command
+going text = cond (minus? text) (back (numeral 2147483648 (drop 1 text))) (forth (numeral 2147483647 text))
+
+-- What a line asks by its word: "P and D fit 32 bits unsigned [..] Any other line prints `bad`".
+unfoldable pub worded : List ℕ → Command
+worded line =
+    cond (starts? openWord line) (opening (numeral 4294967295 (drop 5 line)))
+    (cond (starts? navWord line) (navigating (numeral 4294967295 (drop 4 line)))
+    (cond (starts? goWord line) (going (drop 3 line)) Command.bad))
+
+-- What a line asks: "at most 64 bytes".
+unfoldable pub parse : List ℕ → Command
+parse line = cond (ltb 64 (length line)) Command.bad (worded line)
+
+-- The line that asks it; for bad the empty line.
+unfoldable pub printed : Command → List ℕ
+printed (Command.opens d) = openWord ++ decimal d
+printed (Command.navs d) = navWord ++ decimal d
+printed (Command.goes δ) = goWord ++ signed δ
+printed Command.bad = []
+
+-- The numbers of a command fit: "P and D fit 32 bits unsigned, N fits 32 bits signed".
+abbrev pub InRange : Command → Type 0
+InRange (Command.opens d) = d ≤ 4294967295
+InRange (Command.navs d) = d ≤ 4294967295
+InRange (Command.goes (pos n)) = n ≤ 2147483647
+InRange (Command.goes (negsuc n)) = n < 2147483648
+InRange Command.bad = Unit {0}
+
+-- What the code read, in these words.
+abbrev pub commandIs : Read → Command
+commandIs (Reads.Open d) = Command.opens (d .0)
+commandIs (Reads.Nav d) = Command.navs (d .0)
+commandIs (Reads.Go δ) = Command.goes δ
+commandIs Reads.Bad = Command.bad

@@ -1,0 +1,323 @@
+// One line of a script: what it asks, and the text of the line that answers it.
+use base::DocNo;
+use base::Refusal;
+ghost use mathlib.Core.Bool.{true};
+ghost use mathlib.Core.List.{[], _∷_};
+ghost use mathlib.Core.Path.{_≡_};
+ghost use Prim.Native.Nat.{_+_, _-_, _<_, _≤_};
+ghost use lib.ListN.{length};
+ghost use Rattle.lines.specs.Decimal.{decimal, digit?, leadingZero?, digits?, decimal?, spelled as spelledBy, upTo, numeral as numeralOf};
+ghost use Rattle.lines.specs.Lines.{starts? as startsWith, minus?, opening as openingOf, navigating as navigatingOf, forth as forthOf, back as backOf, going as goingOf, worded as wordedOf, parse as parseOf, commandIs};
+ghost use Rattle.lines.specs.Reply.{statusText, answerText, Wrote};
+ghost use Rattle.lines.specs.Bounds.{Most};
+
+// What a line asks.
+pub enum Command {
+    Open(DocNo),
+    Nav(DocNo),
+    Go(i32),
+    Bad,
+}
+
+// A number that a text spells.
+pub enum Number {
+    Is(u32),
+    Nothing,
+}
+
+// An answer: a number or a refusal, then position and steps.
+pub enum Reply {
+    Ok(usize, usize, usize),
+    No(Refusal, usize, usize),
+    Bad,
+}
+
+// Whether a line starts with a word.
+fn starts<'a>(line: &'a [u8], word: &'a [u8]) -> bool
+    ensures { λ r. ⌜ r ≡ startsWith (now (word .entry)) (now (line .entry)) ⌝ }
+{
+    let n = word.len();
+    if line.len() < n {
+        return false;
+    }
+    let mut i = 0;
+    while i < n {
+        if line[i] != word[i] {
+            return false;
+        }
+        i += 1;
+    }
+    true
+}
+
+// Whether a byte is a digit.
+fn is_digit(b: u8) -> bool
+    ensures { λ r. ⌜ r ≡ digit? b ⌝ }
+{
+    (47 < b) & (b < 58)
+}
+
+// Whether every byte is a digit.
+fn all_digits(text: &[u8]) -> bool
+    ensures { λ r. ⌜ r ≡ digits? (now (text .entry)) ⌝ }
+{
+    let mut i = 0;
+    while i < text.len() {
+        if !is_digit(text[i]) {
+            return false;
+        }
+        i += 1;
+    }
+    true
+}
+
+// Whether a text has a zero with more after it.
+fn leads_zero(text: &[u8]) -> bool
+    ensures { λ r. ⌜ r ≡ leadingZero? (now (text .entry)) ⌝ }
+{
+    if text.len() < 2 {
+        return false;
+    }
+    text[0] == b'0'
+}
+
+// Whether a text is a decimal without leading zeros.
+fn is_decimal(text: &[u8]) -> bool
+    ensures { λ r. ⌜ r ≡ decimal? (now (text .entry)) ⌝ }
+{
+    if text.len() == 0 {
+        return false;
+    }
+    if leads_zero(text) {
+        return false;
+    }
+    all_digits(text)
+}
+
+// The value of a digit.
+fn digit(b: u8) -> u64
+    requires { ⌜ 47 < b ⌝ }
+    ensures { λ r. ⌜ r ≡ b - 48 ⌝ }
+{
+    (b - 48) as u64
+}
+
+// The number that digits spell, if it is at most top: what is above top is never carried on.
+fn spelled(text: &[u8], top: u32) -> Number
+    requires { ⌜ digits? (now text) ≡ true ⌝ }
+    ensures { λ r. ⌜ r ≡ upTo top (spelledBy (now (text .entry)) (length (now (text .entry)))) ⌝ }
+{
+    let most = top as u64;
+    let mut n: u64 = 0;
+    let mut i = 0;
+    while i < text.len() {
+        n = n * 10 + digit(text[i]);
+        if n > most {
+            return Number::Nothing;
+        }
+        i += 1;
+    }
+    Number::Is(n as u32)
+}
+
+// The number that a text spells, if it is a decimal and the number at most top.
+pub fn numeral(text: &[u8], top: u32) -> Number
+    ensures { λ r. ⌜ r ≡ numeralOf top (now (text .entry)) ⌝ }
+{
+    if is_decimal(text) {
+        spelled(text, top)
+    } else {
+        Number::Nothing
+    }
+}
+
+// The command to open a frame in a document.
+fn opening(n: Number) -> Command
+    ensures { λ r. ⌜ commandIs r ≡ openingOf n ⌝ }
+{
+    match n {
+        Number::Is(d) => Command::Open(DocNo(d)),
+        Number::Nothing => Command::Bad,
+    }
+}
+
+// The command to navigate from a document.
+fn navigating(n: Number) -> Command
+    ensures { λ r. ⌜ commandIs r ≡ navigatingOf n ⌝ }
+{
+    match n {
+        Number::Is(d) => Command::Nav(DocNo(d)),
+        Number::Nothing => Command::Bad,
+    }
+}
+
+// The command to go forward.
+fn forth(n: Number) -> Command
+    requires { ⌜ Most 2147483647 n ⌝ }
+    ensures { λ r. ⌜ commandIs r ≡ forthOf n ⌝ }
+{
+    match n {
+        Number::Is(k) => Command::Go(k as i32),
+        Number::Nothing => Command::Bad,
+    }
+}
+
+// The command to go back: never by zero.
+fn back(n: Number) -> Command
+    requires { ⌜ Most 2147483648 n ⌝ }
+    ensures { λ r. ⌜ commandIs r ≡ backOf n ⌝ }
+{
+    match n {
+        Number::Is(k) => {
+            if k == 0 {
+                return Command::Bad;
+            }
+            let wide = k as i64;
+            Command::Go((0 - wide) as i32)
+        }
+        Number::Nothing => Command::Bad,
+    }
+}
+
+// Whether a text starts with a minus.
+fn has_minus(text: &[u8]) -> bool
+    ensures { λ r. ⌜ r ≡ minus? (now (text .entry)) ⌝ }
+{
+    if text.len() == 0 {
+        return false;
+    }
+    text[0] == b'-'
+}
+
+// What the text after `go ` asks.
+fn going(text: &[u8]) -> Command
+    ensures { λ r. ⌜ commandIs r ≡ goingOf (now (text .entry)) ⌝ }
+{
+    if has_minus(text) {
+        let n = numeral(&text[1..], 2147483648);
+        return back(n);
+    }
+    let n = numeral(text, 2147483647);
+    forth(n)
+}
+
+// What a line asks by its first word.
+fn worded(line: &[u8]) -> Command
+    ensures { λ r. ⌜ commandIs r ≡ wordedOf (now (line .entry)) ⌝ }
+{
+    if starts(line, b"open ") {
+        return opening(numeral(&line[5..], 4294967295));
+    }
+    if starts(line, b"nav ") {
+        return navigating(numeral(&line[4..], 4294967295));
+    }
+    if starts(line, b"go ") {
+        return going(&line[3..]);
+    }
+    Command::Bad
+}
+
+// What a line asks.
+pub fn parse(line: &[u8]) -> Command
+    ensures { λ r. ⌜ commandIs r ≡ parseOf (now (line .entry)) ⌝ }
+{
+    if line.len() > 64 {
+        return Command::Bad;
+    }
+    worded(line)
+}
+
+// Writes one byte, and answers the place after it.
+fn put_byte(out: &mut [u8], at: usize, b: u8) -> usize
+    requires { ⌜ at < length (now out) ⌝ }
+    ensures { λ r. ⌜ Wrote (now (out .entry)) at (b ∷ []) (now (out .exit)) r ⌝ }
+{
+    out[at] = b;
+    at + 1
+}
+
+// The byte of a digit.
+fn glyph(n: usize) -> u8
+    requires { ⌜ n < 10 ⌝ }
+    ensures { λ r. ⌜ r ≡ 48 + n ⌝ }
+{
+    48 + n as u8
+}
+
+// Writes a number's decimal: the digits before the last, then the last.
+pub fn put_decimal(out: &mut [u8], at: usize, n: usize) -> usize
+    requires { ⌜ at + length (decimal n) ≤ length (now out) ⌝ }
+    ensures { λ r. ⌜ Wrote (now (out .entry)) at (decimal n) (now (out .exit)) r ⌝ }
+{
+    if n < 10 {
+        return put_byte(out, at, glyph(n));
+    }
+    let k = put_decimal(out, at, n / 10);
+    put_byte(out, k, glyph(n % 10))
+}
+
+// Writes a byte and a number's decimal.
+fn put_number(out: &mut [u8], at: usize, mark: u8, n: usize) -> usize
+    requires { ⌜ at + length (mark ∷ decimal n) ≤ length (now out) ⌝ }
+    ensures { λ r. ⌜ Wrote (now (out .entry)) at (mark ∷ decimal n) (now (out .exit)) r ⌝ }
+{
+    let k = put_byte(out, at, mark);
+    put_decimal(out, k, n)
+}
+
+// Writes two letters.
+fn put_letters(out: &mut [u8], at: usize, a: u8, b: u8) -> usize
+    requires { ⌜ at + 2 ≤ length (now out) ⌝ }
+    ensures { λ r. ⌜ Wrote (now (out .entry)) at (a ∷ b ∷ []) (now (out .exit)) r ⌝ }
+{
+    out[at] = a;
+    out[at + 1] = b;
+    at + 2
+}
+
+// Writes two letters, a number, position/steps, and the newline.
+fn put_status(
+    out: &mut [u8],
+    at: usize,
+    a: u8,
+    b: u8,
+    n: usize,
+    position: usize,
+    steps: usize,
+) -> usize
+    requires { ⌜ at + length (statusText a b n position steps) ≤ length (now out) ⌝ }
+    ensures { λ r. ⌜ Wrote (now (out .entry)) at (statusText a b n position steps) (now (out .exit)) r ⌝ }
+{
+    let i = put_letters(out, at, a, b);
+    let j = put_number(out, i, b' ', n);
+    let k = put_number(out, j, b' ', position);
+    let l = put_number(out, k, b'/', steps);
+    put_byte(out, l, 10)
+}
+
+// Writes `bad` and the newline.
+fn put_bad(out: &mut [u8], at: usize) -> usize
+    requires { ⌜ at + 4 ≤ length (now out) ⌝ }
+    ensures { λ r. ⌜ Wrote (now (out .entry)) at (98 ∷ 97 ∷ 100 ∷ 10 ∷ []) (now (out .exit)) r ⌝ }
+{
+    out[at] = b'b';
+    out[at + 1] = b'a';
+    out[at + 2] = b'd';
+    out[at + 3] = 10;
+    at + 4
+}
+
+// Writes an answer with its newline, and answers the place after it.
+pub fn put_answer(out: &mut [u8], at: usize, reply: Reply) -> usize
+    requires { ⌜ at + length (answerText reply) ≤ length (now out) ⌝ }
+    ensures { λ r. ⌜ Wrote (now (out .entry)) at (answerText reply) (now (out .exit)) r ⌝ }
+{
+    match reply {
+        Reply::Ok(v, p, s) => put_status(out, at, b'o', b'k', v, p, s),
+        Reply::No(r, p, s) => {
+            let k = base::refusal_number(r) as usize;
+            put_status(out, at, b'n', b'o', k, p, s)
+        }
+        Reply::Bad => put_bad(out, at),
+    }
+}

@@ -1,0 +1,164 @@
+-- When Navigate is refused: the judges' answers, and what an accepted call may rely on. Assumes nothing.
+use Prim.Native.Nat.{ℕ, zero, suc, _≤_, _<_}
+use mathlib.Core.Bool.{Bool, true, false, not, _&&_, So, and-eq-true-iff}
+use mathlib.Core.List.{List, [], _∷_}
+use mathlib.Core.Logic.{_≢_, _⊎_, inl, inr}
+use mathlib.Core.Path.{_≡_, refl, sym, subst, _∙_}
+use native.Mathlib.Nat.{not-suc-le-zero}
+use native.Mathlib.Omega.{arith}
+use lib.Dec.{eqb}
+use lib.ListN.{length}
+use borrow.Author.Tests.{eqb-true, eqb-false, eq-eqb, ne-eqb, leb-true, leb-false, le-leb, not-false}
+use Rattle.base.specs.declared.Refusal.{Refusal}
+use Rattle.base.specs.declared.Refusal.the-variants.{Absent, Hidden, Full, UsedUp}
+use Rattle.base.specs.Numbers.{numberOf}
+use Rattle.rules.specs.Below.{someBelow, count}
+use Rattle.rules.specs.Rows.{Row, none, inRecord}
+use Rattle.rules.specs.Steps.{isStep, reached, taken, upcoming, position, steps, visible}
+use Rattle.rules.specs.Moves.{without, cleared, navigated}
+use Rattle.rules.specs.Words.{capacity, tableOf, rowsOf, written}
+use Rattle.rules.specs.Calls.{Call, Answer, full, refusals, accepted, outcome, Given, NoneGiven}
+use Rattle.laws.proofs.Calls.{outcome-accepted, outcome-refused}
+use Rattle.laws.proofs.Tests.{test, clash, off, same-tests, below-cases, some-in, some-out, count-yes, count-no, count-in, count-same, count-split, count-all, count-zero}
+use Rattle.laws.proofs.Kept.{kept-length}
+use Rattle.laws.proofs.Climb.{gone-self}
+use Rattle.laws.proofs.Removal.{stays, stays-in, gone-later}
+use Rattle.sound.specs.Check.{checkOf, Examined, Judged}
+use Rattle.sound.specs.declared.Check.{Check}
+use Rattle.sound.specs.declared.Check.the-variants.{Sound, No}
+use Rattle.sound.proofs.Checks.{check-given}
+use Rattle.navigates.specs.Answers.{RoomJudged}
+
+-- WHEN NO ROW IS LEFT
+
+pub count-few : (p : ℕ → Bool) (n : ℕ) → count p n ≤ n
+count-few p zero = omega (arith, count-zero p)
+count-few p (suc n) = let h = count-few p n in test (p n) (λ t. omega (arith, count-yes p n t)) (λ f. omega (arith, count-no p n f))
+
+-- With one that does not pass there are fewer.
+count-fewer : (p : ℕ → Bool) (n : ℕ) {v : ℕ} → v < n → p v ≡ false → count p n < n
+count-fewer p zero l f = absurd (not-suc-le-zero l)
+count-fewer p (suc n) {v} l f =
+    test (p n)
+    (λ t. let h = count-fewer p n {v = v} (earlier (below-cases l) t f) f in omega (arith, count-yes p n t))
+    (λ o. omega (arith, count-no p n o, count-few p n))
+  where
+    earlier : {v n : ℕ} → ((v ≡ n) ⊎ (v < n)) → So (p n) → p v ≡ false → v < n
+    earlier (inl e) t f = absurd (clash (rw e t) f)
+    earlier (inr l) t f = l
+
+module _ (rows : List Row) where
+  pub none-upcoming : steps rows ≡ position rows → (v : ℕ) → v < length rows → upcoming rows v ≡ false
+  unfolding steps position
+  none-upcoming e v l =
+      off _ (λ h.
+      let t = simp and-eq-true-iff at h in
+      let c = count-same (taken rows) (λ k. reached rows k && isStep rows k) (length rows) (λ k m.
+      same-tests (λ x. let y = simp and-eq-true-iff at x in simp and-eq-true-iff (y .1, y .0)) (λ x. let y = simp and-eq-true-iff at x in simp and-eq-true-iff (y .1, y .0))) in
+      let i = count-in (λ k. not (reached rows k) && isStep rows k) (length rows) l (simp and-eq-true-iff (t .1, t .0)) in
+      omega (arith, count-split (reached rows) (isStep rows) (length rows)))
+
+  pub some-upcoming : (steps rows ≡ position rows → ⊥) → So (someBelow (length rows) (upcoming rows))
+  unfolding steps position
+  some-upcoming ne =
+      test (someBelow (length rows) (upcoming rows)) (λ t. t) (λ f.
+      absurd (ne (count-same (isStep rows) (taken rows) (length rows) (λ k l.
+      same-tests
+      (λ s. simp and-eq-true-iff (s, test (reached rows k) (λ r. r) (λ o. absurd (clash (some-in (upcoming rows) (length rows) l (simp and-eq-true-iff (s, rw o refl))) f))))
+      (λ h. (simp and-eq-true-iff at h) .0)))))
+
+  pub cleared-length : length (cleared rows) ≡ count (stays (upcoming rows) rows) (length rows)
+  unfolding without
+  cleared-length = kept-length (stays (upcoming rows) rows) rows
+
+  all-stay : steps rows ≡ position rows → length (cleared rows) ≡ length rows
+  all-stay e =
+      cleared-length ∙ count-all _ (length rows) (λ k l. stays-in (upcoming rows) rows k (λ g.
+      let v = gone-later (upcoming rows) rows (suc k) k (omega arith) g in clash (v .2) (none-upcoming e (v .0) (omega arith))))
+
+  fewer-stay : (steps rows ≡ position rows → ⊥) → length (cleared rows) < length rows
+  fewer-stay ne =
+      let v = some-out (upcoming rows) (length rows) (some-upcoming ne) in
+      let h = count-fewer (stays (upcoming rows) rows) (length rows) (v .1) (rw (gone-self (upcoming rows) rows (v .0) (v .2)) refl) in
+      omega (arith, cleared-length)
+
+pub full-is : (words : List ℕ) (n c p s : ℕ) → n ≡ length (rowsOf words) → c ≡ capacity words → length (rowsOf words) ≤ capacity words → p ≡ position (rowsOf words) → s ≡ steps (rowsOf words) →
+    (eqb n c && eqb s p) ≡ full words (cleared (rowsOf words))
+full-is words n c p s en ec held ep es =
+    same-tests
+    (λ h.
+    let t = simp and-eq-true-iff at h in
+    let x = eqb-true n c (t .0) in
+    let y = all-stay (rowsOf words) (sym es ∙ eqb-true s p (t .1) ∙ ep) in
+    le-leb (capacity words) (length (cleared (rowsOf words))) (omega arith))
+    (λ h.
+    let l : capacity words ≤ length (cleared (rowsOf words)) = leb-true (capacity words) (length (cleared (rowsOf words))) h in
+    test (eqb s p)
+    (λ t. let y : length (cleared (rowsOf words)) ≡ length (rowsOf words) = all-stay (rowsOf words) (sym es ∙ eqb-true s p t ∙ ep) in simp and-eq-true-iff (eq-eqb n c (omega arith), t))
+    (λ f. let y = fewer-stay (rowsOf words) (λ e. eqb-false s p f (es ∙ e ∙ sym ep)) in absurd (omega arith)))
+
+-- REFUSALS 7 AND 8
+
+module _ (words : List ℕ) (b : Bool) (e : b ≡ full words (cleared (rowsOf words))) where
+  pub room-full : b ≡ true → RoomJudged words (No Full)
+  unfolding Given
+  room-full t = inl (sym e ∙ t, refl)
+
+  pub room-used : (d : ℕ) → b ≡ false → d ≡ tableOf words .nextDoc → d ≡ none → RoomJudged words (No UsedUp)
+  unfolding Given
+  room-used d f h n = inr (sym e ∙ f, inl (eq-eqb _ _ (sym h ∙ n), refl))
+
+  pub room-left : (d : ℕ) → b ≡ false → d ≡ tableOf words .nextDoc → (d ≡ none → ⊥) → RoomJudged words Sound
+  unfolding NoneGiven
+  room-left d f h n = (sym e ∙ f, (ne-eqb _ _ (λ z. n (h ∙ z)), tt))
+
+-- REFUSALS 4 TO 8
+
+module _ (words : List ℕ) (e : Examined words) (d : ℕ) where
+  pub judged-absent : inRecord (rowsOf words) d ≡ false → Judged (Call.Navigate words d) (No Absent)
+  unfolding refusals Given
+  judged-absent f = inr (e .long, inr (rw (e .passes) refl, inl (rw f refl, refl)))
+
+  pub judged-hidden : inRecord (rowsOf words) d ≡ true → visible (rowsOf words) d ≡ false → Judged (Call.Navigate words d) (No Hidden)
+  unfolding refusals Given
+  judged-hidden t f = inr (e .long, inr (rw (e .passes) refl, inr (rw t refl, inl (rw f refl, refl))))
+
+  pub judged-room : (k : Check) → inRecord (rowsOf words) d ≡ true → visible (rowsOf words) d ≡ true → RoomJudged words k → Judged (Call.Navigate words d) k
+  unfolding refusals Given NoneGiven
+  judged-room Sound t v h = (e .long, (rw (e .passes) refl, (rw t refl, (rw v refl, h))))
+  judged-room (No r) t v h = inr (e .long, inr (rw (e .passes) refl, inr (rw t refl, inr (rw v refl, h))))
+
+pub judged-refused : (words : List ℕ) (d : ℕ) (k : Check) (r : Refusal) → k ≡ checkOf words → k ≡ No r → Judged (Call.Navigate words d) (No r)
+unfolding refusals
+judged-refused words d k r e f = check-given words _ k r e f
+
+-- What an accepted call may rely on.
+pub record Free (words : List ℕ) (d : ℕ) : Type 0 where
+  pub examined : Examined words
+  pub sees : So (visible (rowsOf words) d)
+  pub room : length (cleared (rowsOf words)) < capacity words
+  pub unused : tableOf words .nextDoc ≢ none
+
+pub free : (words : List ℕ) (d : ℕ) → NoneGiven (refusals (Call.Navigate words d)) → Free words d
+unfolding refusals NoneGiven
+free words d h =
+    record {
+      examined = record { long = h .0; passes = not-false _ (h .1 .0) };
+      sees = not-false _ (h .1 .1 .1 .0);
+      room = leb-false _ _ (h .1 .1 .1 .1 .0);
+      unused = eqb-false _ _ (h .1 .1 .1 .1 .1 .0);
+    }
+
+-- THE OUTCOME
+
+module _ (words : List ℕ) (d : ℕ) (k : Check) (h : Judged (Call.Navigate words d) k) where
+  pub navigate-goes : k ≡ Sound → NoneGiven (refusals (Call.Navigate words d))
+  navigate-goes e = subst (Judged (Call.Navigate words d)) e h
+
+  pub navigate-refused : (r : Refusal) → k ≡ No r → outcome (Call.Navigate words d) ≡ record { answer = Answer.refuses (numberOf r); lent = words ∷ [] }
+  navigate-refused r e = outcome-refused (Call.Navigate words d) (numberOf r) (subst (Judged (Call.Navigate words d)) e h)
+
+  pub navigate-given : (e : ℕ) (left : List ℕ) → k ≡ Sound → e ≡ tableOf words .nextDoc → left ≡ written words (navigated (tableOf words) d) →
+      outcome (Call.Navigate words d) ≡ record { answer = Answer.gives (e ∷ []); lent = left ∷ [] }
+  unfolding accepted
+  navigate-given e left s a b = outcome-accepted (Call.Navigate words d) (navigate-goes s) ∙ rw (a, b) refl

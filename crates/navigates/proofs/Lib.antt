@@ -1,0 +1,5 @@
+pub mod Judges
+pub mod Stays
+pub mod Packed
+pub mod Settled
+pub mod Turns

@@ -1,0 +1,192 @@
+-- Rows closed up in the words: what stands where, and the loop that does it. Assumes nothing.
+use Prim.Native.Nat.{ℕ, zero, suc, _+_, _-_, _*_, _/_, _%_, _≤_, _<_}
+use mathlib.Core.Bool.{Bool, So}
+use mathlib.Core.List.{List, [], _∷_, _++_, flatMap, append-assoc}
+use mathlib.Core.Path.{_≡_, refl, sym, ap, ap₂, subst, _∙_}
+use native.Mathlib.Nat.{not-suc-le-zero, le-antisymm}
+use native.Mathlib.Numerals.{add-one}
+use native.Mathlib.Omega.{arith}
+use lib.ListN.{length, getD, List·getD-append}
+use lib.Seq.{getD-append-add}
+use Rattle.rules.specs.Below.{count, earliest, gather}
+use Rattle.rules.specs.Rows.{Row, none, rowAt}
+use Rattle.rules.specs.Steps.{upcoming}
+use Rattle.rules.specs.Moves.{without, cleared}
+use Rattle.rules.specs.Words.{put, capacity, rowIn, tableOf, rowsOf, rowWords}
+use Rattle.laws.proofs.Tests.{test, count-yes, count-no, count-all, count-in, length-gather, gather-at}
+use Rattle.laws.proofs.Removal.{SoundRows, sound-rows, stays}
+use Rattle.laws.proofs.Words.{rows-length, rows-row, length-words}
+use Rattle.laws.proofs.Writes.{length-put, put-put, put-same, get-put-in, get-put-past, get-put-before}
+use Rattle.rows.specs.Held.{Within}
+use Rattle.rows.proofs.Tallies.{Earliest, earliest-out}
+use Rattle.sound.specs.Check.{Examined}
+use Rattle.sound.proofs.Checks.{examined-sound, examined-held}
+use Rattle.navigates.specs.Packing.{joins, Moved}
+use Rattle.navigates.proofs.Judges.{count-few, cleared-length}
+use Rattle.navigates.proofs.Stays.{early-stays, joins-is}
+
+-- THE WORDS OF ROWS
+
+-- Word 4 i + c of the rows' words is word c of row i.
+pub word-at : (rows : List Row) (i c : ℕ) → i < length rows → c < 4 → getD (flatMap rowWords rows) (4 * i + c) 0 ≡ getD (rowWords (rowAt rows i)) c 0
+unfolding flatMap
+word-at [] i c l m = absurd (not-suc-le-zero l)
+word-at (r ∷ rows) zero c l m =
+    let e : 4 * 0 + c ≡ c = omega arith in
+    rw e (List·getD-append (rowWords r) (flatMap rowWords rows) 0 c (omega arith))
+word-at (r ∷ rows) (suc i) c l m =
+    let e : 4 * suc i + c ≡ length (rowWords r) + (4 * i + c) = omega arith in
+    rw e (getD-append-add (rowWords r) (flatMap rowWords rows) (4 * i + c) 0 ∙ word-at rows i c (omega arith) m)
+
+pub words-snoc : (rows : List Row) (r : Row) → flatMap rowWords (rows ++ r ∷ []) ≡ flatMap rowWords rows ++ rowWords r
+unfolding flatMap
+words-snoc [] r = refl
+words-snoc (x ∷ rows) r = ap (λ t. rowWords x ++ t) (words-snoc rows r) ∙ sym (append-assoc (rowWords x) (flatMap rowWords rows) (rowWords r))
+
+-- Rows put over the first ones of a record.
+module _ (old : List ℕ) (held : length (rowsOf old) ≤ capacity old) (rs : List Row) (few : length rs ≤ length (rowsOf old)) where
+  abbrev over : List ℕ
+  over = put old 3 (flatMap rowWords rs)
+
+  same-head : getD over 0 0 ≡ getD old 0 0
+  same-head = get-put-before (flatMap rowWords rs) old 3 0 (omega arith)
+
+  pub over-length : length (rowsOf over) ≡ length (rowsOf old)
+  over-length = rows-length over ∙ same-head ∙ sym (rows-length old)
+
+  pub over-capacity : capacity over ≡ capacity old
+  over-capacity = rw length-put
+
+  -- A row put; a row past them.
+  pub over-row : (j : ℕ) → j < length rs → rowAt (rowsOf over) j ≡ rowAt rs j
+  over-row j l =
+      let at : (k m : ℕ) → k < 4 → m ≡ 3 + (4 * j + k) → getD over m 0 ≡ getD (rowWords (rowAt rs j)) k 0 =
+      λ k m b e. ap (λ m. getD over m 0) e ∙ get-put-in old (flatMap rowWords rs) 3 (4 * j + k) (omega (arith, length-words rs)) (omega (arith, length-words rs)) ∙ word-at rs j k l b in
+      rows-row over j (omega (arith, same-head, rows-length old))
+      ∙ rw (at 0 (3 + 4 * j) (omega arith) (omega arith), at 1 (4 + 4 * j) (omega arith) (omega arith), at 2 (5 + 4 * j) (omega arith) (omega arith), at 3 (6 + 4 * j) (omega arith) (omega arith))
+
+  pub over-rest : (j : ℕ) → length rs ≤ j → j < length (rowsOf old) → rowAt (rowsOf over) j ≡ rowAt (rowsOf old) j
+  over-rest j l m =
+      let at : (k : ℕ) → 3 + 4 * j ≤ k → getD over k 0 ≡ getD old k 0 = λ k b. get-put-past (flatMap rowWords rs) old 3 k (omega (arith, length-words rs)) in
+      let same : rowIn over j ≡ rowIn old j = rw (at (3 + 4 * j) (omega arith), at (4 + 4 * j) (omega arith), at (5 + 4 * j) (omega arith), at (6 + 4 * j) (omega arith)) in
+      rows-row over j (omega (arith, same-head, rows-length old)) ∙ same ∙ sym (rows-row old j (omega (arith, rows-length old)))
+
+-- The first rows put where they are.
+pub over-same : (old : List ℕ) (held : length (rowsOf old) ≤ capacity old) (rs : List Row) → length rs ≤ length (rowsOf old) →
+    ((j : ℕ) → j < length rs → rowAt rs j ≡ rowAt (rowsOf old) j) → put old 3 (flatMap rowWords rs) ≡ old
+over-same old held rs few h =
+    put-same (flatMap rowWords rs) old 3 (λ k l.
+    let n = length-words rs in
+    let j = k / 4 in
+    let c = k % 4 in
+    let e : k ≡ 4 * j + c = omega arith in
+    let m : j < length rs = omega arith in
+    let b : c < 4 = omega arith in
+    subst (λ k. getD (flatMap rowWords rs) k 0 ≡ getD old (3 + k) 0) (sym e)
+    (word-at rs j c m b ∙ ap (λ r. getD (rowWords r) c 0) (h j m ∙ rows-row old j (omega (arith, rows-length old))) ∙ in-row old j c b))
+  where
+    in-row : (words : List ℕ) (i c : ℕ) → c < 4 → getD (rowWords (rowIn words i)) c 0 ≡ getD words (3 + (4 * i + c)) 0
+    in-row words i zero l = ap (λ j. getD words j 0) (omega arith)
+    in-row words i (suc zero) l = ap (λ j. getD words j 0) (omega arith)
+    in-row words i (suc (suc zero)) l = ap (λ j. getD words j 0) (omega arith)
+    in-row words i (suc (suc (suc zero))) l = ap (λ j. getD words j 0) (omega arith)
+    in-row words i (suc (suc (suc (suc c)))) l = absurd (omega arith)
+
+-- THE LOOP
+
+abbrev pub keepIn : List ℕ → ℕ → Bool
+keepIn old = stays (upcoming (rowsOf old)) (rowsOf old)
+
+-- Of the rows before i those that stay, in order.
+abbrev pub keptTo : List ℕ → ℕ → List Row
+keptTo old i = gather (keepIn old) (rowAt (rowsOf old)) i
+
+-- The rows before i are done: those that stay stand before place k.
+pub record Packed (old : List ℕ) (i k : ℕ) (new : List ℕ) : Type 0 where
+  pub places : k ≡ count (keepIn old) i
+  pub packed : new ≡ put old 3 (flatMap rowWords (keptTo old i))
+
+pub packed-size : (old : List ℕ) (i k : ℕ) (new : List ℕ) → Packed old i k new → length new ≡ length old
+packed-size old i k new p = ap length (p .packed) ∙ length-put old 3 _
+
+module _ (old : List ℕ) (e : Examined old) (word : tableOf old .nextDoc ≤ none) where
+  sound-in : SoundRows (rowsOf old) (tableOf old .nextDoc) (tableOf old .nextFrame)
+  sound-in = sound-rows (examined-sound old e .table) word
+
+  held : length (rowsOf old) ≤ capacity old
+  held = examined-held old e
+
+  fewer : (i : ℕ) → i ≤ length (rowsOf old) → length (keptTo old i) ≤ length (rowsOf old)
+  fewer i l = omega (arith, length-gather (keepIn old) (rowAt (rowsOf old)) i, count-few (keepIn old) i)
+
+  -- What a turn may rely on.
+  pub packed-within : (i k : ℕ) (new : List ℕ) → Packed old i k new → i < length (rowsOf old) → Within new i × (k ≤ i)
+  packed-within i k new p l =
+      let few = fewer i (omega arith) in
+      let a : length (rowsOf new) ≡ length (rowsOf old) = ap (λ w. length (rowsOf w)) (p .packed) ∙ over-length old held (keptTo old i) few in
+      let b : capacity new ≡ capacity old = ap capacity (p .packed) ∙ over-capacity old held (keptTo old i) few in
+      let h = held in
+      (record { held = omega arith; below = omega arith }, omega (arith, p .places, count-few (keepIn old) i))
+
+  module _ (start : ℕ) (first : start ≡ earliest (upcoming (rowsOf old)) (length (rowsOf old))) where
+    begins : Earliest (upcoming (rowsOf old)) (length (rowsOf old)) start
+    begins = subst (Earliest (upcoming (rowsOf old)) (length (rowsOf old))) (sym first) (earliest-out (upcoming (rowsOf old)) (length (rowsOf old)))
+
+    pub starts-within : start ≤ length (rowsOf old)
+    starts-within = begins .within
+
+    early : (i : ℕ) → i < start → So (keepIn old i)
+    early = early-stays (rowsOf old) sound-in start (begins .none-before)
+
+    -- Up to the first upcoming step nothing moves.
+    pub packed-starts : Packed old start start old
+    packed-starts =
+        let n : count (keepIn old) start ≡ start = count-all (keepIn old) start early in
+        record {
+          places = sym n;
+          packed = sym (over-same old held (keptTo old start) (fewer start starts-within) (λ j l.
+              let m : j < start = omega (arith, length-gather (keepIn old) (rowAt (rowsOf old)) start) in
+              ap (λ x. rowAt (keptTo old start) x) (sym (count-all (keepIn old) j (λ i b. early i (omega arith)))) ∙ gather-at (keepIn old) (rowAt (rowsOf old)) start _ m (early j m)));
+        }
+
+    -- The turn's test is whether the row stays.
+    turn-test : (i k : ℕ) (new : List ℕ) → Packed old i k new → start ≤ i → i < length (rowsOf old) → joins (rowsOf new) k i ≡ keepIn old i
+    turn-test i k new p late l =
+        let few = fewer i (omega arith) in
+        let size = length-gather (keepIn old) (rowAt (rowsOf old)) i in
+        let test-there = joins-is (rowsOf old) sound-in (rowsOf (put old 3 (flatMap rowWords (keptTo old i)))) i l
+        (over-rest old held (keptTo old i) few i (omega (arith, count-few (keepIn old) i)) l)
+        (λ j m t. over-row old held (keptTo old i) few (count (keepIn old) j) (omega (arith, count-in (keepIn old) i m t)) ∙ gather-at (keepIn old) (rowAt (rowsOf old)) i _ m t)
+        start late (begins .passes (omega arith)) in
+        ap (λ w. joins (rowsOf w) k i) (p .packed) ∙ ap (λ x. joins (rowsOf (put old 3 (flatMap rowWords (keptTo old i)))) x i) (p .places) ∙ test-there
+
+    pub packed-more : (i k r : ℕ) (new next : List ℕ) → Packed old i k new → start ≤ i → i < length (rowsOf old) → Moved new i k r next → Packed old (i + 1) r next
+    unfolding gather
+    packed-more i k r new next p late l m =
+        let t = turn-test i k new p late l in
+        let few = fewer i (omega arith) in
+        let size = length-gather (keepIn old) (rowAt (rowsOf old)) i in
+        let row : rowAt (rowsOf new) i ≡ rowAt (rowsOf old) i =
+        ap (λ w. rowAt (rowsOf w) i) (p .packed) ∙ over-rest old held (keptTo old i) few i (omega (arith, count-few (keepIn old) i)) l in
+        let place : 3 + 4 * k ≡ 3 + length (flatMap rowWords (keptTo old i)) = omega (arith, p .places, length-words (keptTo old i)) in
+        subst (λ x. Packed old x r next) (sym (add-one i)) (test (keepIn old i)
+        (λ s.
+        record {
+          places = m .next-is ∙ rw (t, s) (omega (arith, p .places, count-yes (keepIn old) i s));
+          packed = m .words-are ∙ rw (t, s) (ap₂ (λ w x. put w (3 + 4 * k) (rowWords x)) (p .packed) row
+              ∙ ap (λ x. put (put old 3 (flatMap rowWords (keptTo old i))) x (rowWords (rowAt (rowsOf old) i))) place
+              ∙ put-put (flatMap rowWords (keptTo old i)) (rowWords (rowAt (rowsOf old) i)) old 3
+              ∙ ap (put old 3) (sym (words-snoc (keptTo old i) (rowAt (rowsOf old) i))));
+        })
+        (λ f.
+        record {
+          places = m .next-is ∙ rw (t, f) (p .places ∙ sym (count-no (keepIn old) i f));
+          packed = m .words-are ∙ rw (t, f) (p .packed);
+        }))
+
+    pub packed-ends : (i k : ℕ) (new : List ℕ) → Packed old i k new → i ≤ length (rowsOf old) → length (rowsOf old) ≤ i →
+        (k ≡ length (cleared (rowsOf old))) × (new ≡ put old 3 (flatMap rowWords (cleared (rowsOf old))))
+    unfolding without
+    packed-ends i k new p a b =
+        let q = subst (λ x. Packed old x k new) (le-antisymm a b) p in
+        (q .places ∙ sym (cleared-length (rowsOf old)), q .packed)

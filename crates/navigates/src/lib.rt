@@ -1,0 +1,222 @@
+// Navigate: from a visible document every upcoming step goes, with what is beneath it, and a new document comes.
+use base::DocNo;
+use base::FrameNo;
+use base::Refusal;
+use base::RowPlace;
+use rows::Found;
+use rows::NONE;
+use sound::Check;
+ghost use mathlib.Core.Path.{_≡_};
+ghost use mathlib.Core.Bool.{So};
+ghost use mathlib.Core.List.{[], _∷_, flatMap};
+ghost use Prim.Native.Nat.{_+_, _-_, _*_, _<_, _≤_};
+ghost use lib.ListN.{length, replicate};
+ghost use Rattle.rules.specs.Below.{someBelow, earliest};
+ghost use Rattle.rules.specs.Rows.{none, frameAt, docAt, isDoc};
+ghost use Rattle.rules.specs.Steps.{same, upcoming, position as positionOf};
+ghost use Rattle.rules.specs.Moves.{cleared, navigated};
+ghost use Rattle.rules.specs.Words.{capacity, put, tableOf, rowsOf, rowWords, written};
+ghost use Rattle.rules.specs.Calls.{Call, full, refusals, NoneGiven, outcome};
+ghost use Rattle.rows.specs.Held.{Within};
+ghost use Rattle.sound.specs.Check.{Examined, Judged};
+ghost use Rattle.navigates.specs.Answers.{navigatedIs, RoomJudged};
+ghost use Rattle.navigates.specs.Packing.{joins, Moved, settled};
+
+// Whether no row is left after the removal: only where nothing goes and all rows are in use.
+fn is_full(words: &[u32]) -> bool
+    requires { ⌜ Examined (now words) ⌝ }
+    ensures { λ r. ⌜ r ≡ full (now (words .entry)) (cleared (rowsOf (now (words .entry)))) ⌝ }
+{
+    let n = rows::row_count(words);
+    let t = rows::count_steps(words);
+    (n == rows::capacity(words)) & (t.steps == t.position)
+}
+
+// Refusals 7 and 8, from a visible document.
+fn judge_room(words: &[u32]) -> Check
+    requires { ⌜ Examined (now words) ⌝ }
+    ensures { λ r. ⌜ RoomJudged (now (words .entry)) r ⌝ }
+{
+    if is_full(words) {
+        return Check::No(Refusal::Full);
+    }
+    if rows::next_document(words).0 == NONE {
+        return Check::No(Refusal::UsedUp);
+    }
+    Check::Sound
+}
+
+// Refusals 4 to 8, of a sound record.
+fn judge_sound(words: &[u32], from: DocNo) -> Check
+    requires { ⌜ Examined (now words) ⌝ }
+    ensures { λ r. ⌜ Judged (Call.Navigate (now (words .entry)) (from .0)) r ⌝ }
+{
+    let n = rows::row_count(words);
+    match rows::find_below(words, RowPlace(n), from) {
+        Found::Nothing => Check::No(Refusal::Absent),
+        Found::At(at) => {
+            if asks::climb(words, at) {
+                judge_room(words)
+            } else {
+                Check::No(Refusal::Hidden)
+            }
+        }
+    }
+}
+
+// Whether Navigate is refused, and how.
+fn judge(words: &[u32], from: DocNo) -> Check
+    ensures { λ r. ⌜ Judged (Call.Navigate (now (words .entry)) (from .0)) r ⌝ }
+{
+    match sound::examine(words) {
+        Check::No(r) => Check::No(r),
+        Check::Sound => judge_sound(words, from),
+    }
+}
+
+// The earliest upcoming step of a sound record: the first step that is not among the taken ones, which come first; the end where there is none.
+fn first_upcoming(words: &[u32], position: usize) -> RowPlace
+    requires { ⌜ Examined (now words) × (position ≡ positionOf (rowsOf (now words))) ⌝ }
+    ensures { λ r. ⌜ r .0 ≡ earliest (upcoming (rowsOf (now (words .entry)))) (length (rowsOf (now (words .entry)))) ⌝ }
+{
+    let n = rows::row_count(words);
+    let mut m = 0;
+    let mut high = FrameNo(0);
+    let mut i = 0;
+    while i < n {
+        let at = RowPlace(i);
+        let step = rows::is_step(words, at, high);
+        if step & (position <= m) {
+            return at;
+        }
+        high = rows::higher(high, rows::frame(words, at));
+        m += step as usize;
+        i += 1;
+    }
+    RowPlace(n)
+}
+
+// Whether one of the first k rows is of a row's frame.
+fn frame_before(words: &[u32], at: RowPlace, k: usize) -> bool
+    requires { ⌜ Within (now words) (at .0) × (k ≤ at .0) ⌝ }
+    ensures { λ r. ⌜ r ≡ someBelow k (same (frameAt (rowsOf (now (words .entry)))) (at .0)) ⌝ }
+{
+    let mut i = 0;
+    while i < k {
+        if rows::same_frame(words, at, RowPlace(i)) {
+            return true;
+        }
+        i += 1;
+    }
+    false
+}
+
+// Whether a row stays, where the first k rows are those kept so far: it is the first of its frame among them, and its parent is one of them.
+fn row_joins(words: &[u32], at: RowPlace, k: usize) -> bool
+    requires { ⌜ Within (now words) (at .0) × (k ≤ at .0) ⌝ }
+    ensures { λ r. ⌜ r ≡ joins (rowsOf (now (words .entry))) k (at .0) ⌝ }
+{
+    if frame_before(words, at, k) {
+        return false;
+    }
+    match rows::find_below(words, RowPlace(k), rows::parent(words, at)) {
+        Found::At(_) => true,
+        Found::Nothing => false,
+    }
+}
+
+// Moves a row down behind the k rows kept so far if it stays. How many are kept then.
+fn keep_row(words: &mut [u32], at: RowPlace, k: usize) -> usize
+    requires { ⌜ Within (now words) (at .0) × (k ≤ at .0) ⌝ }
+    ensures { λ r. ⌜ Moved (now (words .entry)) (at .0) k r (now (words .exit)) ⌝ }
+{
+    if !row_joins(words, at, k) {
+        return k;
+    }
+    let d = rows::document(words, at);
+    let f = rows::frame(words, at);
+    let up = rows::parent(words, at);
+    let shown = rows::shown(words, at);
+    writes::put_row(words, RowPlace(k), d, f, up, shown);
+    k + 1
+}
+
+// Removes what goes and closes the gaps: the rows before the first upcoming step stay where they are. How many rows stay.
+fn close_gaps(words: &mut [u32], start: RowPlace, n: usize) -> usize
+    requires { ⌜ Examined (now words) × (tableOf (now words) .nextDoc ≤ none) × (start .0 ≡ earliest (upcoming (rowsOf (now words))) (length (rowsOf (now words)))) × (n ≡ length (rowsOf (now words))) ⌝ }
+    ensures { λ r. ⌜ (r ≡ length (cleared (rowsOf (now (words .entry))))) × (now (words .exit) ≡ put (now (words .entry)) 3 (flatMap rowWords (cleared (rowsOf (now (words .entry)))))) ⌝ }
+{
+    let mut k = start.0;
+    let mut i = start.0;
+    while i < n {
+        k = keep_row(words, RowPlace(i), k);
+        i += 1;
+    }
+    k
+}
+
+// The row that holds a document, where one of the first k rows does.
+fn place_before(words: &[u32], k: usize, d: DocNo) -> RowPlace
+    requires { ⌜ (length (rowsOf (now words)) ≤ capacity (now words)) × (k ≤ length (rowsOf (now words))) × So (someBelow k (isDoc (rowsOf (now words)) (d .0))) ⌝ }
+    ensures { λ r. ⌜ (r .0 < k) × (docAt (rowsOf (now (words .entry))) (r .0) ≡ d .0) ⌝ }
+{
+    match rows::find_below(words, RowPlace(k), d) {
+        Found::At(at) => at,
+        Found::Nothing => RowPlace(0),
+    }
+}
+
+// Makes the words of the rows past the first k zero, up to n rows; none where n is no more.
+fn clear_rows(words: &mut [u32], k: usize, n: usize)
+    requires { ⌜ (3 + 4 * n ≤ length (now words)) × (n ≤ 512) × (k ≤ 512) ⌝ }
+    ensures { λ _. ⌜ now (words .exit) ≡ put (now (words .entry)) (3 + 4 * k) (replicate (4 * (n - k)) 0) ⌝ }
+{
+    if k < n {
+        writes::clear(words, 3 + 4 * k, 3 + 4 * n);
+    }
+}
+
+// Hides the row left, appends to the first k rows one of its frame and parent, clears the words of the other rows up to n, and writes the numbers.
+fn settle(words: &mut [u32], at: RowPlace, k: usize, n: usize, d: DocNo, next: FrameNo)
+    requires { ⌜ Within (now words) (at .0) × (k < capacity (now words)) × (n ≤ capacity (now words)) × (d .0 < none) ⌝ }
+    ensures { λ _. ⌜ now (words .exit) ≡ settled (now (words .entry)) (at .0) k n (d .0) (next .0) ⌝ }
+{
+    let f = rows::frame(words, at);
+    let up = rows::parent(words, at);
+    writes::put_flag(words, at, 0);
+    writes::put_row(words, RowPlace(k), d, f, up, 1);
+    clear_rows(words, k + 1, n);
+    writes::put_head(words, k + 1, DocNo(d.0 + 1), next);
+}
+
+// Navigates where no refusal is given. The new document.
+fn go_from(words: &mut [u32], from: DocNo) -> DocNo
+    requires { ⌜ NoneGiven (refusals (Call.Navigate (now words) (from .0))) ⌝ }
+    ensures { λ r. ⌜ (r .0 ≡ tableOf (now (words .entry)) .nextDoc) × (now (words .exit) ≡ written (now (words .entry)) (navigated (tableOf (now (words .entry))) (from .0))) ⌝ }
+{
+    let n = rows::row_count(words);
+    let t = rows::count_steps(words);
+    let start = first_upcoming(words, t.position);
+    let d = rows::next_document(words);
+    let next = rows::next_frame_number(words);
+    let k = close_gaps(words, start, n);
+    let at = place_before(words, k, from);
+    settle(words, at, k, n, d, next);
+    d
+}
+
+// What Navigate answers: the new document.
+pub enum Navigated {
+    Arrived(DocNo),
+    Refused(Refusal),
+}
+
+// Navigates from a document.
+pub fn navigate(words: &mut [u32], from: DocNo) -> Navigated
+    ensures { λ r. ⌜ outcome (Call.Navigate (now (words .entry)) (from .0)) ≡ record { answer = navigatedIs r; lent = now (words .exit) ∷ [] } ⌝ }
+{
+    match judge(words, from) {
+        Check::No(r) => Navigated::Refused(r),
+        Check::Sound => Navigated::Arrived(go_from(words, from)),
+    }
+}

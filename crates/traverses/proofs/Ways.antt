@@ -1,0 +1,221 @@
+-- What Traverse answers, by the ways that it goes. Assumes nothing.
+use Prim.Native.Nat.{ℕ, suc, _+_, _/_, _≤_, _<_}
+use mathlib.Core.Bool.{false, So, cond}
+use mathlib.Core.List.{List, [], _∷_, _++_, flatMap}
+use mathlib.Core.Logic.{inl, inr}
+use mathlib.Core.Path.{_≡_, refl, sym, ap, subst, subst₂, _∙_, fun-ext}
+use native.Mathlib.Omega.{arith}
+use lib.Dec.{eqb, ltb}
+use lib.IntN.{ℤ, pos, negsuc, _+ℤ_}
+use lib.ListN.{length, length-append}
+use borrow.Author.Tests.{lt-ltb, le-ltb, ltb-false}
+use Rattle.base.specs.declared.Refusal.{Refusal}
+use Rattle.base.specs.declared.Refusal.the-variants.{ShortBuffer, Beyond}
+use Rattle.rules.specs.Below.{someBelow, count, rising}
+use Rattle.rules.specs.Rows.{Row, Table, docAt, isFrame}
+use Rattle.rules.specs.Steps.{step, position, steps}
+use Rattle.rules.specs.Moves.{walked, traversed, frames, shownDoc, changeRow, changes}
+use Rattle.rules.specs.Words.{put, tableOf, rowsOf, written}
+use Rattle.rules.specs.Calls.{Call, Outcome, outside, refusals, accepted, outcome, Given, NoneGiven}
+use Rattle.laws.proofs.Tests.{test}
+use Rattle.laws.proofs.Central.{flagsAt, central, at-length, at-doc, at-frame, at-at}
+use Rattle.laws.proofs.Travel.{walked-at}
+use Rattle.laws.proofs.Tree.{rising-all}
+use Rattle.laws.proofs.Words.{length-written, table-written}
+use Rattle.laws.proofs.Calls.{outcome-accepted, outcome-refused}
+use Rattle.sound.specs.Check.{checkOf, Examined}
+use Rattle.sound.specs.declared.Check.{Check}
+use Rattle.sound.specs.declared.Check.the-variants.{No}
+use Rattle.sound.proofs.Checks.{check-given, examined-long, examined-sound, examined-held}
+use Rattle.traverses.specs.declared.Traversed.the-variants.{Changes, Refused}
+use Rattle.traverses.specs.declared.Goal.{Goal}
+use Rattle.traverses.specs.declared.Goal.the-variants.{To, Outside}
+use Rattle.traverses.specs.Answers.{traversedIs, Travels}
+use Rattle.traverses.specs.Goals.{goalOf}
+use Rattle.traverses.specs.Places.{stepsTo}
+use Rattle.traverses.specs.Texts.{docFrom, changeText, textBelow, placesText, movedTo, Ready, Start}
+
+-- READY
+
+module _ (words : List ℕ) (e : Examined words) (a b : ℕ) (first : a ≤ length (rowsOf words)) (second : b ≤ length (rowsOf words)) where
+  pub ready-of : Ready words a b
+  ready-of =
+      record {
+        long = examined-long words e;
+        held = examined-held words e;
+        rise = λ i j. rising-all (length (rowsOf words)) (docAt (rowsOf words)) (examined-sound words e .table .s2 .rise) j i;
+        first = first;
+        second = second;
+      }
+
+  pub start-of : stepsTo (rowsOf words) a ≡ position (rowsOf words) → Start words a b
+  start-of p =
+      let s = examined-sound words e .table in
+      record { examined = e; ready = ready-of; flags = ap (λ m. flagsAt m (rowsOf words)) p ∙ central (rowsOf words) (s .s6) (s .s7) }
+
+-- THE CHANGE ROWS
+
+flat-same : (g h : ℕ → List ℕ) (xs : List ℕ) → ((f : ℕ) → g f ≡ h f) → flatMap g xs ≡ flatMap h xs
+flat-same g h xs e = ap (λ k. flatMap k xs) (fun-ext e)
+
+flat-lengths : (g h : ℕ → List ℕ) (xs : List ℕ) → ((f : ℕ) → length (g f) ≡ length (h f)) → length (flatMap g xs) ≡ length (flatMap h xs)
+unfolding flatMap
+flat-lengths g h [] e = refl
+flat-lengths g h (x ∷ xs) e = omega (arith, length-append (g x) (flatMap g xs), length-append (h x) (flatMap h xs), e x, flat-lengths g h xs e)
+
+-- From place a, whose flags the rows have, to place b.
+abbrev pub changesTo : Table → ℕ → List ℕ
+changesTo t b = flatMap (changeRow (t .rows) (movedTo t b .rows)) (frames t)
+
+module _ (rows : List Row) (a b : ℕ) (stand : flagsAt (stepsTo rows a) rows ≡ rows) where
+  abbrev moved : List Row
+  moved = flagsAt (stepsTo rows b) rows
+
+  moved-steps : (r : ℕ) → stepsTo moved r ≡ stepsTo rows r
+  moved-steps r = ap (λ fr. count (step fr) r) (at-frame (stepsTo rows b) rows)
+
+  doc-moved : (r f : ℕ) → docFrom moved r f ≡ docFrom rows r f
+  doc-moved r f = ap (λ m. shownDoc (flagsAt m moved) f) (moved-steps r) ∙ ap (λ l. shownDoc l f) (at-at (stepsTo rows b) (stepsTo rows r) rows)
+
+  doc-first : (f : ℕ) → docFrom rows a f ≡ shownDoc rows f
+  doc-first f = ap (λ l. shownDoc l f) stand
+
+  -- Read after the traversal.
+  text-after : (f : ℕ) → changeText moved a b f ≡ changeRow rows moved f
+  unfolding changeText changeRow
+  text-after f = rw (doc-moved a f, doc-moved b f, doc-first f) refl
+
+  -- As long before it.
+  text-before : (f : ℕ) → length (changeText rows a b f) ≡ length (changeRow rows moved f)
+  unfolding changeText changeRow
+  text-before f = rw (doc-first f) (test (eqb (shownDoc rows f) (shownDoc moved f)) (λ t. rw t refl) (λ t. rw t refl))
+
+  frames-moved : (top : ℕ) → rising (isFrame moved) top ≡ rising (isFrame rows) top
+  unfolding isFrame
+  frames-moved top =
+      subst₂ (λ n fr. rising (λ f. someBelow n (λ i. eqb (fr i) f)) top ≡ rising (isFrame rows) top) (sym (at-length (stepsTo rows b) rows)) (sym (at-frame (stepsTo rows b) rows)) refl
+
+module _ (t : Table) (a b : ℕ) (stand : flagsAt (stepsTo (t .rows) a) (t .rows) ≡ t .rows) where
+  text-moved : placesText (movedTo t b) a b ≡ changesTo t b
+  unfolding textBelow
+  text-moved =
+      flat-same _ _ (rising (isFrame (movedTo t b .rows)) (t .nextFrame)) (text-after (t .rows) a b stand)
+      ∙ ap (flatMap (changeRow (t .rows) (movedTo t b .rows))) (frames-moved (t .rows) a b stand (t .nextFrame))
+
+  text-counted : length (placesText t a b) ≡ length (changesTo t b)
+  unfolding textBelow
+  text-counted = flat-lengths _ _ (frames t) (text-before (t .rows) a b stand)
+
+-- After the flags have moved.
+module _ (old : List ℕ) (a b : ℕ) (start : Start old a b) (new : List ℕ) (e : new ≡ written old (movedTo (tableOf old) b)) where
+  moved-table : tableOf new ≡ movedTo (tableOf old) b
+  moved-table =
+      let r = start .ready in
+      let l = r .long in
+      let h = r .held in
+      ap tableOf e ∙ table-written old (movedTo (tableOf old) b) (omega arith) (omega (arith, at-length (stepsTo (rowsOf old) b) (rowsOf old)))
+
+  moved-length : length new ≡ length old
+  moved-length = ap length e ∙ length-written old _
+
+  pub moved-ready : Ready new a b
+  moved-ready =
+      let r = start .ready in
+      let rows = rowsOf old in
+      let q = stepsTo rows b in
+      let n : length (rowsOf new) ≡ length rows = ap (λ t. length (t .rows)) moved-table ∙ at-length q rows in
+      let d : docAt (rowsOf new) ≡ docAt rows = ap (λ t. docAt (t .rows)) moved-table ∙ at-doc q rows in
+      let s = moved-length in
+      let u = r .held in
+      let v = r .long in
+      let x = r .first in
+      let y = r .second in
+      record {
+        long = omega arith;
+        held = rw s (omega arith);
+        rise = λ i j l m. subst (λ doc. doc i < doc j) (sym d) (r .rise i j l (omega arith));
+        first = omega arith;
+        second = omega arith;
+      }
+
+  pub moved-text : placesText (tableOf new) a b ≡ changesTo (tableOf old) b
+  moved-text = ap (λ t. placesText t a b) moved-table ∙ text-moved (tableOf old) a b (start .flags)
+
+-- THE ANSWER
+
+-- What comes back of an empty part that was lent.
+pub none-lent : (e l : List ℕ) → length e ≡ 0 → e ++ l ≡ l
+none-lent [] l z = refl
+none-lent (x ∷ e) l z = absurd (omega arith)
+
+module _ (words : List ℕ) (a b : ℕ) (start : Start words a b) (room : List ℕ) (from to : ℕ) (here : from ≡ position (rowsOf words)) (there : stepsTo (rowsOf words) b ≡ to)
+    (reached : to ≤ steps (rowsOf words)) where
+  within : (δ : ℤ) → pos from +ℤ δ ≡ pos to → outside (steps (rowsOf words)) (pos (position (rowsOf words)) +ℤ δ) ≡ false
+  within δ e = ap (λ p. outside (steps (rowsOf words)) (pos p +ℤ δ)) (sym here) ∙ ap (outside (steps (rowsOf words))) e ∙ le-ltb (steps (rowsOf words)) to reached
+
+  lands : (δ : ℤ) → pos from +ℤ δ ≡ pos to → walked δ (rowsOf words) ≡ movedTo (tableOf words) b .rows
+  lands δ e =
+      let s = examined-sound words (start .examined) .table in
+      let l = walked-at (rowsOf words) (s .s6) (s .s7) δ (within δ e) in
+      let z : pos (l .to) ≡ pos to = sym (l .sum) ∙ ap (λ p. pos p +ℤ δ) (sym here) ∙ e in
+      let y : l .to ≡ stepsTo (rowsOf words) b = (let x : l .to ≡ to = cc in x ∙ sym there) in
+      l .rows-are ∙ ap (λ m. flagsAt m (rowsOf words)) y
+
+  changes-are : (δ : ℤ) → pos from +ℤ δ ≡ pos to → changes (tableOf words) δ ≡ changesTo (tableOf words) b
+  unfolding changes
+  changes-are δ e = ap (λ l. flatMap (changeRow (rowsOf words) l) (frames (tableOf words))) (lands δ e)
+
+  module _ (need : ℕ) (size : need ≡ length (placesText (tableOf words) a b)) where
+    counts : (δ : ℤ) → pos from +ℤ δ ≡ pos to → need ≡ length (changes (tableOf words) δ)
+    counts δ e = size ∙ text-counted (tableOf words) a b (start .flags) ∙ ap length (sym (changes-are δ e))
+
+    -- The room is counted in a part of it that holds no word.
+    module _ (lent : List ℕ) (kept : lent ≡ room) where
+      pub travel-short : length lent < need → Travels words room from to (traversedIs (Refused ShortBuffer)) words lent
+      unfolding refusals Given
+      travel-short l δ e =
+          let x = start .examined in
+          let n = counts δ e in
+          let m : length room < length (changes (tableOf words) δ) = omega (arith, ap length kept) in
+          outcome-refused (Call.Traverse words δ room) 9 (inr (x .long, inr (rw (x .passes) refl, inr (within δ e, inl (lt-ltb _ _ m, refl)))))
+          ∙ rw kept refl
+
+      pub travel-done : (words' room' : List ℕ) → need ≤ length lent → words' ≡ written words (movedTo (tableOf words) b) → room' ≡ put lent 0 (changesTo (tableOf words) b) →
+          Travels words room from to (traversedIs (Changes (need / 4))) words' room'
+      unfolding refusals NoneGiven accepted
+      travel-done words' room' l u v δ e =
+          let x = start .examined in
+          let n = counts δ e in
+          let m : length (changes (tableOf words) δ) ≤ length room = omega (arith, ap length kept) in
+          outcome-accepted (Call.Traverse words δ room) (x .long, (rw (x .passes) refl, (within δ e, (le-ltb _ _ m, tt))))
+          ∙ rw (u, v, kept, n, changes-are δ e, lands δ e) refl
+
+-- Where an amount leads.
+pub goal-to : (s : ℕ) (z : ℤ) (r : Goal) (q : ℕ) → r ≡ goalOf s z → r ≡ To q → (z ≡ pos q) × (q ≤ s)
+goal-to s (pos k) r q e f =
+    test (ltb s k)
+    (λ t. let g : Outside ≡ To q = rw t at (sym e ∙ f) in absurd (let z : _≡_ {A = ℕ} 0 1 = cc in omega arith))
+    (λ t. let g : To k ≡ To q = rw t at (sym e ∙ f) in let h : k ≡ q = cc in (ap pos h, omega (arith, ltb-false s k t)))
+goal-to s (negsuc k) r q e f = absurd (let z : _≡_ {A = ℕ} 0 1 = cc in omega arith)
+
+pub goal-outside : (s : ℕ) (z : ℤ) (r : Goal) → r ≡ goalOf s z → r ≡ Outside → So (outside s z)
+goal-outside s (pos k) r e f =
+    test (ltb s k) (λ t. t) (λ t. let g : To k ≡ Outside = rw t at (sym e ∙ f) in absurd (let z : _≡_ {A = ℕ} 0 1 = cc in omega arith))
+goal-outside s (negsuc k) r e f = refl
+
+pub beyond-way : (words room : List ℕ) (δ : ℤ) (p s : ℕ) → Examined words → p ≡ position (rowsOf words) → s ≡ steps (rowsOf words) → So (outside s (pos p +ℤ δ)) →
+    outcome (Call.Traverse words δ room) ≡ record { answer = traversedIs (Refused Beyond); lent = words ∷ room ∷ [] }
+unfolding refusals Given
+beyond-way words room δ p s x e f h =
+    let g : So (outside (steps (rowsOf words)) (pos (position (rowsOf words)) +ℤ δ)) = rw (e, f) at h in
+    outcome-refused (Call.Traverse words δ room) 6 (inr (x .long, inr (rw (x .passes) refl, inl (g, refl))))
+
+-- An amount as it is handed on.
+pub by-amount : (words room : List ℕ) (o : Outcome) (z δ : ℤ) → z ≡ δ → outcome (Call.Traverse words z room) ≡ o → outcome (Call.Traverse words δ room) ≡ o
+by-amount words room o z δ e h = subst (λ d. outcome (Call.Traverse words d room) ≡ o) e h
+
+-- Refused by the first two rungs.
+pub check-way : (words room : List ℕ) (δ : ℤ) (k : Check) (r : Refusal) → k ≡ checkOf words → k ≡ No r →
+    outcome (Call.Traverse words δ room) ≡ record { answer = traversedIs (Refused r); lent = words ∷ room ∷ [] }
+unfolding refusals
+check-way words room δ k r e f = outcome-refused (Call.Traverse words δ room) _ (check-given words _ k r e f)

@@ -1,0 +1,4 @@
+pub mod Answers
+pub mod Goals
+pub mod Places
+pub mod Texts

@@ -1,0 +1,171 @@
+//! The calls, each with its refusals in rising order. An error is the number of the refusal; then nothing lent was written.
+use crate::history::History;
+use crate::record::{capacity, rows, write, Row, FEWEST_WORDS, NONE};
+use crate::saved::{bytes_of, record_of};
+use crate::sound::is_sound;
+
+pub type Answer<T> = Result<T, u32>;
+
+fn refuse_when(number: u32, given: bool) -> Answer<()> {
+    if given { Err(number) } else { Ok(()) }
+}
+
+/// Refusals 1 and 2, then the history that stands in the record.
+fn examined(words: &[u32]) -> Answer<History> {
+    refuse_when(1, words.len() < FEWEST_WORDS)?;
+    refuse_when(2, !is_sound(words))?;
+    let history = History::of(&rows(words));
+    assert!(history.well_formed(), "S7 is definition 5");
+    Ok(history)
+}
+
+/// Refusals 4 and 5, then the place of the document.
+fn visible_place(history: &History, number: u32) -> Answer<usize> {
+    let place = history.place(number).ok_or(4u32)?;
+    refuse_when(5, !history.fully_active().contains(&number))?;
+    Ok(place)
+}
+
+pub fn fresh(words: &mut [u32]) -> Answer<()> {
+    refuse_when(1, words.len() < FEWEST_WORDS)?;
+    write(words, 1, 1, &[Row { document: 0, frame: 0, parent: NONE, shown: 1 }]);
+    Ok(())
+}
+
+/// Answers the new document number and the new frame number.
+pub fn open(words: &mut [u32], parent: u32) -> Answer<(u32, u32)> {
+    let history = examined(words)?;
+    visible_place(&history, parent)?;
+    let (document, frame) = (words[1], words[2]);
+    refuse_when(7, history.documents.len() == capacity(words.len()))?;
+    refuse_when(8, document == NONE || frame == NONE)?;
+    let mut rows = history.rows();
+    rows.push(Row { document, frame, parent, shown: 1 });
+    write(words, document + 1, frame + 1, &rows);
+    Ok((document, frame))
+}
+
+/// Answers the new document number.
+pub fn navigate(words: &mut [u32], from: u32) -> Answer<u32> {
+    let mut history = examined(words)?;
+    visible_place(&history, from)?;
+    let (document, next_frame) = (words[1], words[2]);
+    // Patch 4: "deleting the joint session future, and then replacing d by d'".
+    history.delete(&history.joint_future());
+    refuse_when(7, history.documents.len() == capacity(words.len()))?;
+    refuse_when(8, document == NONE)?;
+    let place = history.place(from).expect("a visible document is not upcoming, nor beneath one that is");
+    history.replace(place, document);
+    write(words, document + 1, next_frame, &history.rows());
+    Ok(document)
+}
+
+/// Answers how many change rows were written.
+pub fn traverse(words: &mut [u32], delta: i32, changes: &mut [u32]) -> Answer<u32> {
+    let before = examined(words)?;
+    let (position, steps) = standing(&before);
+    let target = position as i64 + delta as i64;
+    refuse_when(6, target < 0 || target > steps as i64)?;
+    let mut after = before.clone();
+    for _ in 0..delta.unsigned_abs() {
+        if delta > 0 {
+            let forward = after.forward_target().expect("an upcoming step is left");
+            after.traverse_to(forward);
+        } else {
+            let back = after.back_target().expect("a taken step is left");
+            after.traverse_from(back);
+        }
+    }
+    let visible = after.fully_active();
+    let mut written = Vec::new();
+    for frame in before.sessions() {
+        let (old, new) = (before.shown_in(frame), after.shown_in(frame));
+        if old != new {
+            written.push([frame, old, new, visible.contains(&new) as u32]);
+        }
+    }
+    fill(changes, &written.concat())?;
+    let (next_document, next_frame) = (words[1], words[2]);
+    write(words, next_document, next_frame, &after.rows());
+    Ok(written.len() as u32)
+}
+
+/// Position and steps of a history.
+fn standing(history: &History) -> (u32, u32) {
+    let steps = (0..history.documents.len()).filter(|&d| history.can_go_back(d)).count();
+    (history.taken().len() as u32, steps as u32)
+}
+
+/// Answers position, steps, and length for scripts, "which is the number of steps".
+pub fn position(words: &[u32]) -> Answer<(u32, u32, u32)> {
+    let (position, steps) = standing(&examined(words)?);
+    Ok((position, steps, steps))
+}
+
+pub fn visible(words: &[u32], document: u32) -> Answer<bool> {
+    let history = examined(words)?;
+    refuse_when(4, history.place(document).is_none())?;
+    Ok(history.fully_active().contains(&document))
+}
+
+/// Answers the counts of taken and of upcoming steps.
+pub fn lists(words: &[u32], taken: &mut [u32], upcoming: &mut [u32]) -> Answer<(u32, u32)> {
+    let history = examined(words)?;
+    let numbers = |places: Vec<usize>| places.iter().map(|&place| history.documents[place].number).collect::<Vec<_>>();
+    let (past, future) = (numbers(history.taken()), numbers(history.joint_future()));
+    refuse_when(9, taken.len() < past.len() || upcoming.len() < future.len())?;
+    fill(taken, &past)?;
+    fill(upcoming, &future)?;
+    Ok((past.len() as u32, future.len() as u32))
+}
+
+/// Answers the part of the caller's own list: its first |δ| entries. The lists are taken as they stand.
+pub fn stretch<'a>(taken: &'a [u32], upcoming: &'a [u32], delta: i32) -> Answer<&'a [u32]> {
+    let list = if delta >= 0 { upcoming } else { taken };
+    list.get(..delta.unsigned_abs() as usize).ok_or(6)
+}
+
+/// Answers the count of pairs (depth, document).
+pub fn outline(words: &[u32], pairs: &mut [u32]) -> Answer<u32> {
+    let history = examined(words)?;
+    let root = history.documents.iter().find(|d| d.active && d.parent.is_none()).expect("the root frame shows a document");
+    let mut found = Vec::new();
+    outline_document(&history, root.number, 0, &mut found);
+    assert_eq!(found.len(), history.fully_active().len(), "the outline holds the visible documents");
+    fill(pairs, &found.concat())?;
+    Ok(found.len() as u32)
+}
+
+/// "A document is followed by its frames by rising frame number, and a frame by its shown document, one level deeper."
+fn outline_document(history: &History, document: u32, depth: u32, found: &mut Vec<[u32; 2]>) {
+    found.push([depth, document]);
+    let mut frames: Vec<u32> = history.documents.iter().filter(|d| d.parent == Some(document)).map(|d| d.session).collect();
+    frames.sort();
+    frames.dedup();
+    for frame in frames {
+        outline_document(history, history.shown_in(frame), depth + 1, found);
+    }
+}
+
+/// Answers the length in bytes.
+pub fn save(words: &[u32], bytes: &mut [u8]) -> Answer<u32> {
+    examined(words)?;
+    let saved = bytes_of(words);
+    fill(bytes, &saved)?;
+    Ok(saved.len() as u32)
+}
+
+/// Answers the number of rows.
+pub fn load(words: &mut [u32], bytes: &[u8]) -> Answer<u32> {
+    refuse_when(1, words.len() < FEWEST_WORDS)?;
+    let record = record_of(bytes).ok_or(3u32)?;
+    refuse_when(7, record[0] as usize > capacity(words.len()))?;
+    write(words, record[1], record[2], &rows(&record));
+    Ok(record[0])
+}
+
+/// Writes an answer to the front of a lent buffer, or refuses with 9; what lies past it is kept.
+fn fill<T: Copy>(buffer: &mut [T], answer: &[T]) -> Answer<()> {
+    buffer.get_mut(..answer.len()).ok_or(9u32)?.copy_from_slice(answer);
+    Ok(())
+}

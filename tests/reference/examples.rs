@@ -1,0 +1,233 @@
+//! Document 01's examples. Each check panics with its name when the reference gives something else.
+use crate::calls::*;
+use crate::history::History;
+use crate::record::{rows, NONE};
+use crate::script;
+use crate::sound::{broken, is_sound};
+use std::fmt::Debug;
+
+struct Checks {
+    held: u32,
+}
+
+impl Checks {
+    fn same<T: PartialEq + Debug>(&mut self, name: &str, given: T, wanted: T) {
+        assert_eq!(given, wanted, "{name}");
+        self.held += 1;
+    }
+}
+
+/// A record of capacity c from rows (document, frame, parent, shown).
+fn record(c: usize, next_document: u32, next_frame: u32, rows: &[[u32; 4]]) -> Vec<u32> {
+    let mut words = vec![0; 3 + 4 * c];
+    words[..3].copy_from_slice(&[rows.len() as u32, next_document, next_frame]);
+    words[3..3 + 4 * rows.len()].copy_from_slice(&rows.concat());
+    words
+}
+
+/// Record X: "documents 0 to 5, frames {0}, {1,5}, {2,4}, {3} numbered 0 to 3, parents none,0,1,0,1,0; shown 0,1,3,4".
+pub fn record_x() -> Vec<u32> {
+    let rows = [[0, 0, NONE, 1], [1, 1, 0, 1], [2, 2, 1, 0], [3, 3, 0, 1], [4, 2, 1, 1], [5, 1, 0, 0]];
+    record(8, 6, 4, &rows)
+}
+
+fn fresh_record(c: usize) -> Vec<u32> {
+    let mut words = vec![7; 3 + 4 * c];
+    fresh(&mut words).unwrap();
+    words
+}
+
+fn visible_documents(words: &[u32]) -> Vec<u32> {
+    rows(words).iter().map(|row| row.document).filter(|&d| visible(words, d) == Ok(true)).collect()
+}
+
+fn shown_documents(words: &[u32]) -> Vec<u32> {
+    rows(words).iter().filter(|row| row.shown == 1).map(|row| row.document).collect()
+}
+
+fn documents(words: &[u32]) -> Vec<u32> {
+    rows(words).iter().map(|row| row.document).collect()
+}
+
+/// Traverse with ample room: the answer and the change rows.
+fn go(words: &mut [u32], delta: i32) -> Answer<Vec<u32>> {
+    let mut changes = vec![77; 64];
+    let count = traverse(words, delta, &mut changes)? as usize;
+    assert!(changes[4 * count..].iter().all(|&word| word == 77), "further rows keep what they held");
+    changes.truncate(4 * count);
+    Ok(changes)
+}
+
+pub fn check_all() -> u32 {
+    let mut checks = Checks { held: 0 };
+    numbered_examples(&mut checks);
+    small_examples(&mut checks);
+    saved_examples(&mut checks);
+    sound_clauses(&mut checks);
+    script_examples(&mut checks);
+    checks.held
+}
+
+fn numbered_examples(c: &mut Checks) {
+    let x = record_x();
+    c.same("P1 sound", is_sound(&x), true);
+    c.same("P1 position", position(&x), Ok((1, 2, 2)));
+    c.same("P1 visible", visible_documents(&x), vec![0, 1, 3, 4]);
+
+    let mut p2 = x.clone();
+    c.same("P2 change rows", go(&mut p2, -1), Ok(vec![2, 4, 2, 1]));
+    c.same("P2 shown", shown_documents(&p2), vec![0, 1, 2, 3]);
+
+    let mut p3 = x.clone();
+    c.same("P3 change rows", go(&mut p3, 1), Ok(vec![1, 1, 5, 1]));
+    c.same("P3 4 is shown", shown_documents(&p3).contains(&4), true);
+    c.same("P3 4 is not visible", visible(&p3, 4), Ok(false));
+
+    for (name, delta) in [("P4", 2), ("P4", -2), ("P5", i32::MIN), ("the other end", i32::MAX)] {
+        let mut words = x.clone();
+        c.same(name, go(&mut words, delta), Err(6));
+        c.same(name, words, x.clone());
+    }
+
+    let mut p6 = x.clone();
+    c.same("P6 number", navigate(&mut p6, 1), Ok(6));
+    c.same("P6 documents", documents(&p6), vec![0, 1, 2, 3, 4, 6]);
+    c.same("P6 position", position(&p6), Ok((2, 2, 2)));
+    c.same("P6 visible", visible_documents(&p6), vec![0, 3, 6]);
+    c.same("P7 change rows", go(&mut p6, -1), Ok(vec![1, 6, 1, 1]));
+    c.same("P7 visible", visible_documents(&p6), vec![0, 1, 3, 4]);
+
+    for (from, refusal) in [(2, 5), (9, 4)] {
+        let mut words = x.clone();
+        c.same("P8", navigate(&mut words, from), Err(refusal));
+        c.same("P8 keeps the words", words, x.clone());
+    }
+
+    let p9 = record(8, 5, 3, &[[0, 0, NONE, 1], [1, 1, 0, 1], [2, 2, 0, 0], [3, 1, 0, 0], [4, 2, 0, 1]]);
+    c.same("P9 clause", broken(&p9), vec![7]);
+    c.same("P9 refused", position(&p9), Err(2));
+    c.same("P9 is not well formed", History::of(&rows(&p9)).well_formed(), false);
+
+    let mut p10 = fresh_record(8);
+    c.same("P10 open 0", open(&mut p10, 0), Ok((1, 1)));
+    c.same("P10 navigate 0", navigate(&mut p10, 0), Ok(2));
+    c.same("P10 open 2", open(&mut p10, 2), Ok((3, 2)));
+    c.same("P10 the latest shown", shown_documents(&p10).last().copied(), Some(3));
+    c.same("P10 by -1", go(&mut p10, -1), Ok(vec![0, 2, 0, 1]));
+    c.same("P10 visible", visible_documents(&p10), vec![0, 1]);
+
+    c.same("P11 number", navigate(&mut p10, 1), Ok(4));
+    c.same("P11 2 and 3 go", documents(&p10), vec![0, 1, 4]);
+
+    let mut p12 = fresh_record(3);
+    c.same("P12 open 0", open(&mut p12, 0), Ok((1, 1)));
+    c.same("P12 navigate 1", navigate(&mut p12, 1), Ok(2));
+    c.same("P12 full", navigate(&mut p12, 2), Err(7));
+    c.same("P12 by -1", go(&mut p12, -1), Ok(vec![1, 2, 1, 1]));
+    c.same("P12 room after the removal", navigate(&mut p12, 1), Ok(3));
+    c.same("P12 documents", documents(&p12), vec![0, 1, 3]);
+}
+
+fn small_examples(c: &mut Checks) {
+    c.same("six words", fresh(&mut [9; 6]), Err(1));
+    let mut seven = [9; 7];
+    c.same("seven words", fresh(&mut seven), Ok(()));
+    c.same("fresh", seven, [1, 1, 1, 0, 0, NONE, 1]);
+    c.same("one row is taken", open(&mut seven, 0), Err(7));
+    let mut ten = [9; 10];
+    c.same("three words past the rows", fresh(&mut ten), Ok(()));
+    c.same("words past 3 + 4C are kept", ten, [1, 1, 1, 0, 0, NONE, 1, 9, 9, 9]);
+
+    let x = record_x();
+    let (mut taken, mut upcoming) = ([8; 3], [9; 1]);
+    c.same("lists of X", lists(&x, &mut taken, &mut upcoming), Ok((1, 1)));
+    c.same("taken, the rest kept", taken, [4, 8, 8]);
+    c.same("upcoming", upcoming, [5]);
+    c.same("no room for taken", lists(&x, &mut [], &mut upcoming), Err(9));
+    c.same("no room for upcoming", lists(&x, &mut taken, &mut []), Err(9));
+    c.same("stretch forward", stretch(&[1, 2], &[3, 4, 5], 2), Ok(&[3, 4][..]));
+    c.same("stretch by nothing", stretch(&[1, 2], &[], 0), Ok(&[][..]));
+    c.same("stretch back", stretch(&[1, 2], &[3], -2), Ok(&[1, 2][..]));
+    c.same("stretch too far back", stretch(&[1, 2], &[3, 4, 5], -3), Err(6));
+    c.same("stretch by the least number", stretch(&[1, 2], &[3], i32::MIN), Err(6));
+    let mut pairs = [6; 9];
+    c.same("outline of X", outline(&x, &mut pairs), Ok(4));
+    c.same("pairs", pairs, [0, 0, 1, 1, 2, 4, 1, 3, 6]);
+    c.same("outline in seven words", outline(&x, &mut pairs[..7]), Err(9));
+    c.same("no change row lent", traverse(&mut x.clone(), 1, &mut [0; 3]), Err(9));
+    c.same("nothing to change", traverse(&mut x.clone(), 0, &mut []), Ok(0));
+    c.same("not a document", visible(&x, NONE), Err(4));
+
+    for (next_document, next_frame, wanted) in [(NONE, 4, Err(8)), (6, NONE, Err(8)), (NONE - 1, NONE - 1, Ok((NONE - 1, NONE - 1)))] {
+        let mut words = x.clone();
+        words[1..3].copy_from_slice(&[next_document, next_frame]);
+        c.same("open near the last number", open(&mut words, 0), wanted);
+    }
+    let mut frames_used = x.clone();
+    frames_used[2] = NONE;
+    c.same("navigate needs no frame number", navigate(&mut frames_used, 1), Ok(6));
+    frames_used[1] = NONE;
+    c.same("navigate with all numbers used", navigate(&mut frames_used, 6), Err(8));
+}
+
+fn saved_examples(c: &mut Checks) {
+    let mut bytes = [0xee; 40];
+    c.same("saved fresh record", save(&fresh_record(1), &mut bytes), Ok(32));
+    let numbers: Vec<u32> = bytes.chunks(4).map(|b| u32::from_be_bytes(b.try_into().unwrap())).collect();
+    c.same("its numbers", numbers, vec![1, 1, 1, 0, NONE, 1, 0, 0, 0xeeee_eeee, 0xeeee_eeee]);
+    c.same("saved in 31 bytes", save(&fresh_record(1), &mut bytes[..31]), Err(9));
+    c.same("empty bytes", load(&mut [0; 7], &[]), Err(3));
+    c.same("six words and empty bytes", load(&mut [0; 6], &[]), Err(1));
+
+    let x = record_x();
+    let mut saved = vec![0; 12 + 16 * 4 + 4 * 6];
+    let length = saved.len() as u32;
+    c.same("X saved", save(&x, &mut saved), Ok(length));
+    let mut again = vec![5; x.len()];
+    c.same("X loaded", load(&mut again, &saved), Ok(6));
+    c.same("X again", again, x);
+    c.same("X in five rows", load(&mut [0; 23], &saved), Err(7));
+    for cut in 0..saved.len() {
+        c.same("cut short", load(&mut [0; 35], &saved[..cut]), Err(3));
+    }
+    saved.push(0);
+    c.same("one byte more", load(&mut [0; 35], &saved), Err(3));
+}
+
+/// One record for each clause, in which that clause alone fails.
+fn sound_clauses(c: &mut Checks) {
+    let changed = |places: &[(usize, u32)]| {
+        let mut words = record_x();
+        places.iter().for_each(|&(at, word)| words[at] = word);
+        broken(&words)
+    };
+    c.same("S1 no rows", changed(&[(0, 0)]), vec![1]);
+    c.same("S1 too many", changed(&[(0, 9)]), vec![1]);
+    c.same("S2 last below word 1", changed(&[(1, 5)]), vec![2]);
+    c.same("S2 rising", changed(&[(3 + 4 * 3, 2)]), vec![2]);
+    c.same("S3", changed(&[(2, 3)]), vec![3]);
+    c.same("S4", changed(&[(3 + 4 * 3 + 2, 3)]), vec![4]);
+    c.same("S5 one parent", changed(&[(3 + 4 * 5 + 2, 3)]), vec![5]);
+    c.same("S5 one root frame", changed(&[(3 + 4 * 3 + 2, NONE)]), vec![5]);
+    c.same("S6 flag", changed(&[(6, 2)]), vec![6]);
+    c.same("S6 two shown", changed(&[(3 + 4 * 2 + 3, 1)]), vec![6]);
+    c.same("S8", changed(&[(3 + 4 * 8 - 1, 1)]), vec![8]);
+}
+
+fn script_examples(c: &mut Checks) {
+    let input = "open 0\nopen 0\nnav 1\nnav 2\ngo -2\ngo 1\nnav 3\nnav 4\ngo -3\n";
+    let wanted = "ok 1 0/0\nok 2 0/0\nok 3 1/1\nok 4 2/2\nok 2 0/2\nok 1 1/2\nok 5 2/2\nno 4 2/2\nno 6 2/2\n";
+    let text = |input: &str| String::from_utf8(script::output(input.as_bytes())).unwrap();
+    c.same("the script", text(input), wanted.to_string());
+    c.same("the last line may lack its newline", text(input.trim_end()), wanted.to_string());
+    c.same("nothing in, nothing out", text(""), String::new());
+    for bad in ["", "open", "open ", "open  0", " open 0", "open 00", "open 01", "open +1", "open -1", "open 4294967296", "nav 0 ", "nav x", "nav 0\r"] {
+        c.same(bad, script::parse(bad.as_bytes()), None);
+    }
+    for bad in ["go -0", "go +1", "go --1", "go -", "go", "go 2147483648", "go -2147483649", "go 0x1", "Go 1", "go -01"] {
+        c.same(bad, script::parse(bad.as_bytes()), None);
+    }
+    c.same("the largest number", script::parse(b"open 4294967295"), Some(script::Line::Open(NONE)));
+    c.same("the least number", script::parse(b"go -2147483648"), Some(script::Line::Go(i32::MIN)));
+    c.same("the greatest number", script::parse(b"go 2147483647"), Some(script::Line::Go(i32::MAX)));
+}

@@ -1,0 +1,10 @@
+//! The frame history, read a second time from document 01's words and document 001's sets.
+//! It is written to be clear, not fast, and shares no text with the library.
+pub mod calls;
+pub mod examples;
+pub mod history;
+pub mod laws;
+pub mod record;
+pub mod saved;
+pub mod script;
+pub mod sound;

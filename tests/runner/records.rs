@@ -1,0 +1,230 @@
+//! Records for the calls: grown by moves, renumbered, damaged, cut, and noise.
+use crate::random::Random;
+use reference::calls;
+use reference::history::History;
+use reference::record::{capacity, rows, used_words, write, Row, NONE};
+use std::collections::BTreeMap;
+
+/// A fresh record with room for so many rows and some words past them.
+pub fn fresh(random: &mut Random, room: usize) -> Vec<u32> {
+    let spare = if room == 512 { random.below(40) } else { random.below(4) };
+    let mut words = random.words(3 + 4 * room + spare);
+    calls::fresh(&mut words).expect("there is room for one row");
+    words
+}
+
+/// How a record grows: how many of its moves traverse and how far, how many of the others open a frame, and which visible
+/// documents it moves from.
+#[derive(Clone, Copy)]
+pub struct Shape {
+    traverse_percent: usize,
+    reach: i32,
+    open_percent: usize,
+    from: From,
+}
+
+#[derive(Clone, Copy)]
+enum From {
+    Any,
+    Latest,
+    Root,
+}
+
+impl Shape {
+    pub fn any(random: &mut Random) -> Shape {
+        Shape {
+            traverse_percent: 15,
+            reach: random.pick(&[1, 2, 2, 700]),
+            open_percent: random.pick(&[5, 20, 50, 95]),
+            from: random.pick(&[From::Any, From::Any, From::Latest, From::Root]),
+        }
+    }
+}
+
+/// One move that the record most likely accepts.
+pub fn move_on(random: &mut Random, words: &mut [u32], shape: Shape) {
+    let visible = visible_documents(words);
+    let from = match shape.from {
+        From::Latest if random.chance(80) => visible[visible.len() - 1],
+        From::Root if random.chance(80) => visible[0],
+        _ => random.pick(&visible),
+    };
+    let _ = if random.chance(shape.traverse_percent) {
+        let delta = delta_within(random, words, 0).clamp(-shape.reach, shape.reach);
+        calls::traverse(words, delta, &mut vec![0; 4 * 512])
+    } else if random.chance(shape.open_percent) {
+        calls::open(words, from).map(|(document, _frame)| document)
+    } else {
+        calls::navigate(words, from)
+    };
+}
+
+pub fn grown(random: &mut Random, room: usize, moves: usize) -> Vec<u32> {
+    let mut words = fresh(random, room);
+    let shape = Shape::any(random);
+    for _ in 0..moves {
+        move_on(random, &mut words, shape);
+    }
+    words
+}
+
+/// A record of which nearly all rows are in use.
+pub fn nearly_full(random: &mut Random, room: usize) -> Vec<u32> {
+    let mut words = fresh(random, room);
+    let mut shape = Shape { traverse_percent: 3, reach: 2, ..Shape::any(random) };
+    for turn in 0.. {
+        if words[0] as usize >= room - room / 20 {
+            break;
+        }
+        // Removals may outweigh what comes; opening alone always ends.
+        if turn == 3 * room {
+            shape = Shape { traverse_percent: 0, open_percent: 100, ..shape };
+        }
+        move_on(random, &mut words, shape);
+    }
+    words
+}
+
+/// By rising number, the root frame's first.
+fn visible_documents(words: &[u32]) -> Vec<u32> {
+    let mut visible: Vec<u32> = History::of(&rows(words)).fully_active().into_iter().collect();
+    visible.sort();
+    visible
+}
+
+pub fn visible_document(random: &mut Random, words: &[u32]) -> u32 {
+    random.pick(&visible_documents(words))
+}
+
+/// A δ from so much below the lowest to so much above the highest that the record accepts.
+pub fn delta_within(random: &mut Random, words: &[u32], beyond: i64) -> i32 {
+    let (position, steps, _) = calls::position(words).unwrap_or_default();
+    random.between(-(position as i64) - beyond, (steps - position) as i64 + beyond) as i32
+}
+
+/// The same history with other numbers: documents still rise, frames come in any order, the next numbers are anything above.
+pub fn renumber(random: &mut Random, words: &mut [u32]) {
+    let mut rows = rows(words);
+    let documents = rising_numbers(random, rows.len() + 1);
+    let frames = History::of(&rows).sessions();
+    let mut numbers = rising_numbers(random, frames.len() + 1);
+    let next_frame = numbers.pop().unwrap();
+    for i in (1..numbers.len()).rev() {
+        numbers.swap(i, random.below(i + 1));
+    }
+    let frame_number: BTreeMap<u32, u32> = frames.into_iter().zip(numbers).collect();
+    let mut document_number: BTreeMap<u32, u32> = rows.iter().map(|row| row.document).zip(documents.iter().copied()).collect();
+    document_number.insert(NONE, NONE);
+    for row in &mut rows {
+        *row = Row { document: document_number[&row.document], frame: frame_number[&row.frame], parent: document_number[&row.parent], shown: row.shown };
+    }
+    write(words, documents[rows.len()], next_frame, &rows);
+}
+
+/// Rising numbers that are close together, spread over the whole range, or end at its end.
+fn rising_numbers(random: &mut Random, count: usize) -> Vec<u32> {
+    let widest = random.pick(&[1, 2, 5, 1000, u32::MAX as usize / (count + 1)]);
+    let mut numbers = Vec::new();
+    let mut at = random.below(widest);
+    for _ in 0..count {
+        numbers.push(at as u32);
+        at += 1 + random.below(widest);
+    }
+    let last = random.pick(&[NONE, NONE - 1, NONE - 2, numbers[count - 1], numbers[count - 1]]);
+    let rise = last - numbers[count - 1];
+    // All of them move up, or the last alone, so that the end of the range is met in both ways.
+    if random.chance(50) {
+        numbers.iter_mut().for_each(|number| *number += rise);
+    } else {
+        numbers[count - 1] += rise;
+    }
+    numbers
+}
+
+/// Changes a sound record in one or a few places; now and then it stays sound.
+pub fn damage(random: &mut Random, words: &mut Vec<u32>) {
+    let count = words[0] as usize;
+    let room = capacity(words.len());
+    let row = 3 + 4 * random.below(count);
+    let other = 3 + 4 * random.below(count);
+    match random.below(15) {
+        0 | 1 => change_words(random, words, 1),
+        2 => {
+            let places = 1 + random.below(4);
+            change_words(random, words, places);
+        }
+        3 => words[0] = random.pick(&[0, (count - 1) as u32, (count + 1) as u32, room as u32, (room + 1) as u32, 0x4000_0000, NONE]),
+        4 => (0..4).for_each(|i| words.swap(row + i, other + i)),
+        5 | 14 => {
+            let (row, other) = (step_or(random, words, row), step_or(random, words, other));
+            move_flag(words, row, other);
+        }
+        6 if count < room => {
+            let at = 3 + 4 * count + random.below(4 * (room - count));
+            words[at] = random.pick(&[1, 2, NONE]);
+        }
+        7 => words[1] = words[3 + 4 * (count - 1)].saturating_sub(random.below(2) as u32),
+        8 => words[2] = rows(words).iter().map(|row| row.frame).max().unwrap().saturating_sub(random.below(2) as u32),
+        9 => {
+            // The whole frame gets another parent: its own row, a later one, one that is not there, or none.
+            let absent = random.telling_word();
+            let parent = random.pick(&[words[row], words[other], absent, NONE]);
+            let frame = words[row + 1];
+            (0..count).map(|i| 3 + 4 * i).filter(|&at| words[at + 1] == frame).collect::<Vec<_>>().into_iter().for_each(|at| words[at + 2] = parent);
+        }
+        10 => words[row + 2] = random.pick(&[words[other], words[other + 2], NONE]),
+        11 => words[row + 1] = words[other + 1],
+        12 => words[row + 3] = random.pick(&[0, 1, 2, NONE, 0x0100_0001]),
+        _ => {
+            let end = used_words(words.len());
+            words[end..].iter_mut().for_each(|word| *word = random.telling_word());
+            words[row] = words[row].wrapping_add(random.pick(&[1, NONE]));
+        }
+    }
+}
+
+fn change_words(random: &mut Random, words: &mut [u32], places: usize) {
+    let near = 3 + 4 * words[0] as usize;
+    for _ in 0..places {
+        let bound = if random.chance(80) { near } else { words.len() };
+        let at = random.below(bound);
+        words[at] = match random.below(3) {
+            0 => words[at].wrapping_add(random.pick(&[1, NONE])),
+            1 => words[random.below(near)],
+            _ => random.telling_word(),
+        };
+    }
+}
+
+/// The start of a random row that is a step, or the given one when there is none.
+fn step_or(random: &mut Random, words: &[u32], row: usize) -> usize {
+    let frame = |place: usize| words[4 + 4 * place];
+    let steps: Vec<usize> = (0..words[0] as usize).filter(|&i| (0..i).any(|j| frame(j) == frame(i))).collect();
+    if steps.is_empty() { row } else { 3 + 4 * random.pick(&steps) }
+}
+
+/// Shows the one row instead of its frame's shown row, and the same for the other: S6 stays, S7 may not.
+fn move_flag(words: &mut [u32], row: usize, other: usize) {
+    let count = words[0] as usize;
+    for at in [row, other] {
+        let frame = words[at + 1];
+        for place in 0..count {
+            if words[4 + 4 * place] == frame {
+                words[6 + 4 * place] = (3 + 4 * place == at) as u32;
+            }
+        }
+    }
+}
+
+/// Words without any order, small or large, with a count that may fit.
+pub fn noise(random: &mut Random, length: usize) -> Vec<u32> {
+    let mut words: Vec<u32> = match random.below(3) {
+        0 => random.words(length),
+        1 => (0..length).map(|_| random.telling_word()).collect(),
+        _ => (0..length).map(|_| random.below(3) as u32).collect(),
+    };
+    if length > 0 && random.chance(60) {
+        words[0] = random.below(2 + capacity(length)) as u32;
+    }
+    words
+}

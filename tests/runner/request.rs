@@ -1,0 +1,141 @@
+//! One call with everything it is lent: as the driver is asked for it, and as the reference answers it.
+use reference::calls;
+use std::io::{self, Read};
+
+#[derive(Clone, Copy, PartialEq, Eq, PartialOrd, Ord, Debug)]
+pub enum Call {
+    Fresh,
+    Open,
+    Navigate,
+    Traverse,
+    Position,
+    Visible,
+    Lists,
+    Stretch,
+    Outline,
+    Save,
+    Load,
+}
+
+/// In the order of the driver's numbers.
+pub const CALLS: [Call; 11] = [
+    Call::Fresh, Call::Open, Call::Navigate, Call::Traverse, Call::Position, Call::Visible, Call::Lists, Call::Stretch, Call::Outline, Call::Save,
+    Call::Load,
+];
+
+/// `first` and `second` are change rows, the two lists, or pairs; `number` is a document or δ.
+#[derive(Clone)]
+pub struct Request {
+    pub call: Call,
+    pub number: u32,
+    pub lie: u32,
+    pub guard: u32,
+    pub outs: [u32; 3],
+    pub words: Vec<u32>,
+    pub first: Vec<u32>,
+    pub second: Vec<u32>,
+    pub bytes: Vec<u8>,
+}
+
+#[derive(Clone, PartialEq, Eq)]
+pub struct Reply {
+    pub refusal: u32,
+    pub outs: [u32; 3],
+    pub guards: u32,
+    pub words: Vec<u32>,
+    pub first: Vec<u32>,
+    pub second: Vec<u32>,
+    pub bytes: Vec<u8>,
+}
+
+impl Request {
+    pub fn encode(&self, to: &mut Vec<u8>) {
+        let counts = [self.words.len(), self.first.len(), self.second.len(), self.bytes.len()].map(|count| count as u32);
+        let head = [[self.call as u32, self.number, self.lie, self.guard].as_slice(), &self.outs, &counts].concat();
+        for word in head.iter().chain(&self.words).chain(&self.first).chain(&self.second) {
+            to.extend(word.to_le_bytes());
+        }
+        to.extend(&self.bytes);
+        to.extend(vec![0; padding(self.bytes.len())]);
+    }
+
+    /// What the reference says that the call must leave.
+    pub fn expected(&self) -> Reply {
+        let mut reply = Reply {
+            refusal: 0,
+            outs: self.outs,
+            guards: 0,
+            words: self.words.clone(),
+            first: self.first.clone(),
+            second: self.second.clone(),
+            bytes: self.bytes.clone(),
+        };
+        match self.answer(&mut reply) {
+            Ok(answers) => reply.outs[..answers.len()].copy_from_slice(&answers),
+            Err(refusal) => reply.refusal = refusal,
+        }
+        reply
+    }
+
+    fn answer(&self, lent: &mut Reply) -> Result<Vec<u32>, u32> {
+        let Reply { words, first, second, bytes, .. } = lent;
+        Ok(match self.call {
+            Call::Fresh => calls::fresh(words).map(|()| vec![])?,
+            Call::Open => calls::open(words, self.number).map(|(document, frame)| vec![document, frame])?,
+            Call::Navigate => vec![calls::navigate(words, self.number)?],
+            Call::Traverse => vec![calls::traverse(words, self.number as i32, first)?],
+            Call::Position => calls::position(words).map(|(position, steps, length)| vec![position, steps, length])?,
+            Call::Visible => vec![calls::visible(words, self.number)? as u32],
+            Call::Lists => calls::lists(words, first, second).map(|(taken, upcoming)| vec![taken, upcoming])?,
+            Call::Stretch => vec![calls::stretch(first, second, self.number as i32)?.len() as u32],
+            Call::Outline => vec![calls::outline(words, first)?],
+            Call::Save => vec![calls::save(words, bytes)?],
+            Call::Load => vec![calls::load(words, bytes)?],
+        })
+    }
+
+    /// The call whole, for a reader who wants to repeat it by hand.
+    pub fn print(&self) {
+        println!("  call {:?}, number {} (signed {}), runs lie {}, guard {:#010x}", self.call, self.number, self.number as i32, self.lie, self.guard);
+        println!("  out words before {:?}", self.outs);
+        print_runs(&self.words, &self.first, &self.second, &self.bytes);
+        if self.words.len() >= 7 {
+            println!("  clauses broken in the record: {:?}", reference::sound::broken(&self.words));
+        }
+    }
+}
+
+impl Reply {
+    pub fn read(from: &mut impl Read, request: &Request) -> io::Result<Reply> {
+        let head = read_words(from, 5)?;
+        let words = read_words(from, request.words.len())?;
+        let first = read_words(from, request.first.len())?;
+        let second = read_words(from, request.second.len())?;
+        let mut bytes = vec![0; request.bytes.len() + padding(request.bytes.len())];
+        from.read_exact(&mut bytes)?;
+        bytes.truncate(request.bytes.len());
+        Ok(Reply { refusal: head[0], outs: [head[1], head[2], head[3]], guards: head[4], words, first, second, bytes })
+    }
+
+    pub fn print(&self) {
+        println!("  refusal {}, out words {:?}, guards {}", self.refusal, self.outs, self.guards);
+        print_runs(&self.words, &self.first, &self.second, &self.bytes);
+    }
+}
+
+fn print_runs(words: &[u32], first: &[u32], second: &[u32], bytes: &[u8]) {
+    println!("  words ({}) {words:?}", words.len());
+    println!("  first run ({}) {first:?}", first.len());
+    println!("  second run ({}) {second:?}", second.len());
+    println!("  bytes ({}) {bytes:?}", bytes.len());
+}
+
+fn padding(byte_count: usize) -> usize {
+    byte_count.wrapping_neg() & 3
+}
+
+fn read_words(from: &mut impl Read, count: usize) -> io::Result<Vec<u32>> {
+    let mut bytes = vec![0; 4 * count];
+    from.read_exact(&mut bytes)?;
+    Ok(bytes.chunks(4).map(|four| u32::from_le_bytes(four.try_into().unwrap())).collect())
+}

@@ -1,0 +1,71 @@
+//! The table of document 01, "Nine ways to say no", and a count of what occurred of it.
+use crate::request::{Call, CALLS};
+use reference::sound::broken;
+use std::collections::BTreeMap;
+
+/// Whether the table lets this call give this refusal; 0 stands for acceptance.
+pub fn allowed(call: Call, refusal: u32) -> bool {
+    use Call::*;
+    match refusal {
+        0 => true,
+        1 => call != Stretch,
+        2 => !matches!(call, Fresh | Load | Stretch),
+        3 => call == Load,
+        4 => matches!(call, Open | Navigate | Visible),
+        5 => matches!(call, Open | Navigate),
+        6 => matches!(call, Traverse | Stretch),
+        7 => matches!(call, Open | Navigate | Load),
+        8 => matches!(call, Open | Navigate),
+        9 => matches!(call, Traverse | Lists | Outline | Save),
+        _ => false,
+    }
+}
+
+#[derive(Default)]
+pub struct Seen {
+    pairs: BTreeMap<(Call, u32), u64>,
+    clauses: BTreeMap<u8, u64>,
+    differing: BTreeMap<Call, u64>,
+}
+
+impl Seen {
+    pub fn note(&mut self, call: Call, refusal: u32, words: &[u32]) {
+        assert!(allowed(call, refusal), "the reference gives {refusal} for {call:?}, which the table does not have");
+        *self.pairs.entry((call, refusal)).or_default() += 1;
+        if refusal == 2 {
+            if let [clause] = broken(words)[..] {
+                *self.clauses.entry(clause).or_default() += 1;
+            }
+        }
+    }
+
+    pub fn note_difference(&mut self, call: Call) {
+        *self.differing.entry(call).or_default() += 1;
+    }
+
+    pub fn differences(&self) -> u64 {
+        self.differing.values().sum()
+    }
+
+    pub fn pair_count(&self) -> usize {
+        self.pairs.len()
+    }
+
+    /// The pairs of the table and the clauses of soundness (each failing alone) that did not occur.
+    pub fn missing(&self) -> Vec<String> {
+        let pairs = CALLS.iter().flat_map(|&call| (0..=9).map(move |refusal| (call, refusal)));
+        let pairs = pairs.filter(|&(call, refusal)| allowed(call, refusal) && !self.pairs.contains_key(&(call, refusal)));
+        let clauses = (1..=8).filter(|clause| !self.clauses.contains_key(clause));
+        pairs.map(|(call, refusal)| format!("{call:?} giving {refusal}")).chain(clauses.map(|clause| format!("S{clause} failing alone"))).collect()
+    }
+
+    pub fn print(&self) {
+        for call in CALLS {
+            let counts = (0..=9).filter_map(|refusal| self.pairs.get(&(call, refusal)).map(|count| format!("{refusal}: {count}")));
+            let differing = self.differing.get(&call).map(|count| format!("  DIFFERENT: {count}")).unwrap_or_default();
+            println!("  {:10} {}{differing}", format!("{call:?}"), counts.collect::<Vec<_>>().join("  "));
+        }
+        let clauses = self.clauses.iter().map(|(clause, count)| format!("S{clause}: {count}"));
+        println!("  {:10} {}", "alone", clauses.collect::<Vec<_>>().join("  "));
+    }
+}
