@@ -1,0 +1,22 @@
+-- `frame_history_load` meets its contract. Assumes nothing.
+use borrow.Author.Needs.{needs}
+use mathlib.Core.Path.{ap}
+use native.Mathlib.Omega.{arith}
+use Rattle.loads.specs.Answers.{loadingIs}
+use Rattle.frame_history.proofs.Bounds.{load-small}
+use Rattle.frame_history.proofs.Faces.{face-gives, face-refuses}
+use Rattle.frame_history.proofs.frame_history_load.Statement.{statement}
+use Rattle.frame_history.proofs.frame_history_load.Tie as tie
+
+pub frame-history-load-spec : {M : Type 1} → statement M
+frame-history-load-spec =
+    tie.close (tie.spec
+    (λ c κs. search needs)
+    (λ c. search needs)
+    (λ c. let b = load-small _ _ _ _ _ (c .before .before .before .before .before .load .ensures) (ap loadingIs (c .before .n .given .1)) in omega (arith, b))
+    (λ c. search needs)
+    (λ c κs. search needs)
+    (λ c. search needs)
+    (λ c. face-gives _ _ _ _ (c .before .before .before .before .before .load .ensures) _ (ap loadingIs (c .before .n .given .1)))
+    (λ c. search needs)
+    (λ c. face-refuses _ _ _ _ (c .before .before .before .before .before .before .load .ensures) _ _ (ap loadingIs (c .before .before .r .given .1)) (c .refusal-number .ensures)))

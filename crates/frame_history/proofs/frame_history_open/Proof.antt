@@ -1,0 +1,19 @@
+-- `frame_history_open` meets its contract. Assumes nothing.
+use borrow.Author.Needs.{needs}
+use mathlib.Core.Path.{ap}
+use Rattle.moves.specs.Answers.{openedIs}
+use Rattle.frame_history.proofs.Faces.{face-gives, face-refuses}
+use Rattle.frame_history.proofs.frame_history_open.Statement.{statement}
+use Rattle.frame_history.proofs.frame_history_open.Tie as tie
+
+pub frame-history-open-spec : {M : Type 1} → statement M
+frame-history-open-spec =
+    tie.close (tie.spec
+    (λ c κs. search needs)
+    (λ c. search needs)
+    (λ c. search needs)
+    (λ c κs. search needs)
+    (λ c. search needs)
+    (λ c. face-gives _ _ _ _ (c .before .before .before .before .before .open-frame .ensures) _ (ap openedIs (c .before .d .given .1)))
+    (λ c. search needs)
+    (λ c. face-refuses _ _ _ _ (c .before .before .before .before .before .before .open-frame .ensures) _ _ (ap openedIs (c .before .before .r .given .1)) (c .refusal-number .ensures)))

@@ -1,0 +1,19 @@
+-- What a host sees of a call. Definitions.
+use Prim.Native.Nat.{ℕ}
+use mathlib.Core.List.{List}
+use Rattle.rules.specs.Calls.{Answer, Outcome}
+
+-- The number returned, what the out words hold then, and what the runs hold then that were lent to write in.
+pub record Face : Type 0 where
+  pub number : ℕ
+  pub outs : List ℕ
+  pub lent : List (List ℕ)
+
+-- An answer as a host sees it: 0 and the values, or the refusal's number and the out words as they were.
+abbrev pub shown : Answer → List ℕ → List (List ℕ) → Face
+shown (Answer.gives values) olds runs = record { number = 0; outs = values; lent = runs }
+shown (Answer.refuses k) olds runs = record { number = k; outs = olds; lent = runs }
+
+-- An outcome as a host sees it whose out words held `olds` before; the lent runs are as the outcome leaves them.
+abbrev pub face : Outcome → List ℕ → Face
+face o olds = shown (o .answer) olds (o .lent)

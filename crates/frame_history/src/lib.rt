@@ -1,0 +1,212 @@
+// What a host calls: each call answers 0 or the refusal's number, and its values through out words, which keep what they hold on refusal.
+use asks::Listed;
+use asks::Sight;
+use asks::Standing;
+use asks::Stretched;
+use base::DocNo;
+use loads::Loading;
+use moves::Freshened;
+use moves::Opened;
+use navigates::Navigated;
+use outlines::Outlined;
+use saved::Saving;
+use traverses::Traversed;
+ghost use mathlib.Core.Path.{_≡_};
+ghost use mathlib.Core.List.{[], _∷_};
+ghost use Rattle.rules.specs.Calls.{Call, outcome};
+ghost use Rattle.frame_history.specs.Face.{face};
+
+// Writes the record of a new window: one document in the root frame.
+#[no_mangle]
+pub extern "C" fn frame_history_fresh(words: &mut [u32]) -> u32
+    ensures { λ r. ⌜ face (outcome (Call.Fresh (now (words .entry)))) [] ≡ record { number = r; outs = []; lent = now (words .exit) ∷ [] } ⌝ }
+{
+    match moves::fresh(words) {
+        Freshened::Done => 0,
+        Freshened::Refused(r) => base::refusal_number(r),
+    }
+}
+
+// Opens a frame under a visible document: the numbers of the new document and its frame.
+#[no_mangle]
+pub extern "C" fn frame_history_open(
+    words: &mut [u32],
+    parent: u32,
+    document: &mut u32,
+    frame: &mut u32,
+) -> u32
+    ensures { λ r. ⌜ face (outcome (Call.Open (now (words .entry)) parent)) (now (document .entry) ∷ now (frame .entry) ∷ [])
+        ≡ record { number = r; outs = now (document .exit) ∷ now (frame .exit) ∷ []; lent = now (words .exit) ∷ [] } ⌝ }
+{
+    match moves::open_frame(words, DocNo(parent)) {
+        Opened::Numbers(d, f) => {
+            *document = d.0;
+            *frame = f.0;
+            0
+        }
+        Opened::Refused(r) => base::refusal_number(r),
+    }
+}
+
+// Navigates from a visible document: the number of the new document.
+#[no_mangle]
+pub extern "C" fn frame_history_navigate(words: &mut [u32], from: u32, document: &mut u32) -> u32
+    ensures { λ r. ⌜ face (outcome (Call.Navigate (now (words .entry)) from)) (now (document .entry) ∷ [])
+        ≡ record { number = r; outs = now (document .exit) ∷ []; lent = now (words .exit) ∷ [] } ⌝ }
+{
+    match navigates::navigate(words, DocNo(from)) {
+        Navigated::Arrived(d) => {
+            *document = d.0;
+            0
+        }
+        Navigated::Refused(r) => base::refusal_number(r),
+    }
+}
+
+// Traverses by a signed amount: how many change rows are written, of four words each.
+#[no_mangle]
+pub extern "C" fn frame_history_traverse(
+    words: &mut [u32],
+    delta: i32,
+    changes: &mut [u32],
+    count: &mut u32,
+) -> u32
+    ensures { λ r. ⌜ face (outcome (Call.Traverse (now (words .entry)) delta (now (changes .entry)))) (now (count .entry) ∷ [])
+        ≡ record { number = r; outs = now (count .exit) ∷ []; lent = now (words .exit) ∷ now (changes .exit) ∷ [] } ⌝ }
+{
+    match traverses::traverse(words, delta, changes) {
+        Traversed::Changes(n) => {
+            *count = n as u32;
+            0
+        }
+        Traversed::Refused(r) => base::refusal_number(r),
+    }
+}
+
+// Position, steps, and the length for scripts.
+#[no_mangle]
+pub extern "C" fn frame_history_position(
+    words: &[u32],
+    position: &mut u32,
+    steps: &mut u32,
+    length: &mut u32,
+) -> u32
+    ensures { λ r. ⌜ face (outcome (Call.Position (now (words .entry)))) (now (position .entry) ∷ now (steps .entry) ∷ now (length .entry) ∷ [])
+        ≡ record { number = r; outs = now (position .exit) ∷ now (steps .exit) ∷ now (length .exit) ∷ []; lent = [] } ⌝ }
+{
+    match asks::position(words) {
+        Standing::At(p, s, l) => {
+            *position = p as u32;
+            *steps = s as u32;
+            *length = l as u32;
+            0
+        }
+        Standing::Refused(r) => base::refusal_number(r),
+    }
+}
+
+// Whether a document is visible: 1 or 0.
+#[no_mangle]
+pub extern "C" fn frame_history_visible(words: &[u32], document: u32, answer: &mut u32) -> u32
+    ensures { λ r. ⌜ face (outcome (Call.Visible (now (words .entry)) document)) (now (answer .entry) ∷ [])
+        ≡ record { number = r; outs = now (answer .exit) ∷ []; lent = [] } ⌝ }
+{
+    match asks::visible(words, DocNo(document)) {
+        Sight::Visible => {
+            *answer = 1;
+            0
+        }
+        Sight::Hidden => {
+            *answer = 0;
+            0
+        }
+        Sight::Refused(r) => base::refusal_number(r),
+    }
+}
+
+// Taken steps, latest first, and upcoming steps, earliest first: how many of each are written.
+#[no_mangle]
+pub extern "C" fn frame_history_lists(
+    words: &[u32],
+    taken: &mut [u32],
+    upcoming: &mut [u32],
+    takens: &mut u32,
+    upcomings: &mut u32,
+) -> u32
+    ensures { λ r. ⌜ face (outcome (Call.Lists (now (words .entry)) (now (taken .entry)) (now (upcoming .entry)))) (now (takens .entry) ∷ now (upcomings .entry) ∷ [])
+        ≡ record { number = r; outs = now (takens .exit) ∷ now (upcomings .exit) ∷ []; lent = now (taken .exit) ∷ now (upcoming .exit) ∷ [] } ⌝ }
+{
+    match asks::lists(words, taken, upcoming) {
+        Listed::Counts(t, u) => {
+            *takens = t as u32;
+            *upcomings = u as u32;
+            0
+        }
+        Listed::Refused(r) => base::refusal_number(r),
+    }
+}
+
+// How many entries the stretch by an amount has of the caller's own lists.
+#[no_mangle]
+pub extern "C" fn frame_history_stretch<'a>(
+    taken: &'a [u32],
+    upcoming: &'a [u32],
+    delta: i32,
+    count: &mut u32,
+) -> u32
+    ensures { λ r. ⌜ face (outcome (Call.StretchCount (now (taken .entry)) (now (upcoming .entry)) delta)) (now (count .entry) ∷ [])
+        ≡ record { number = r; outs = now (count .exit) ∷ []; lent = [] } ⌝ }
+{
+    match asks::stretch_count(taken, upcoming, delta) {
+        Stretched::Count(n) => {
+            *count = n as u32;
+            0
+        }
+        Stretched::Refused(r) => base::refusal_number(r),
+    }
+}
+
+// The visible documents with their depths: how many pairs are written, of two words each.
+#[no_mangle]
+pub extern "C" fn frame_history_outline(words: &[u32], pairs: &mut [u32], count: &mut u32) -> u32
+    ensures { λ r. ⌜ face (outcome (Call.Outline (now (words .entry)) (now (pairs .entry)))) (now (count .entry) ∷ [])
+        ≡ record { number = r; outs = now (count .exit) ∷ []; lent = now (pairs .exit) ∷ [] } ⌝ }
+{
+    match outlines::outline(words, pairs) {
+        Outlined::Pairs(n) => {
+            *count = n as u32;
+            0
+        }
+        Outlined::Refused(r) => base::refusal_number(r),
+    }
+}
+
+// Writes the saved form of a record: its length in bytes.
+#[no_mangle]
+pub extern "C" fn frame_history_save(words: &[u32], bytes: &mut [u8], length: &mut u32) -> u32
+    ensures { λ r. ⌜ face (outcome (Call.Save (now (words .entry)) (now (bytes .entry)))) (now (length .entry) ∷ [])
+        ≡ record { number = r; outs = now (length .exit) ∷ []; lent = now (bytes .exit) ∷ [] } ⌝ }
+{
+    match saved::save(words, bytes) {
+        Saving::Length(n) => {
+            *length = n as u32;
+            0
+        }
+        Saving::Refused(r) => base::refusal_number(r),
+    }
+}
+
+// Fills a record from bytes that Save wrote: how many rows it has.
+#[no_mangle]
+pub extern "C" fn frame_history_load(words: &mut [u32], bytes: &[u8], rows: &mut u32) -> u32
+    ensures { λ r. ⌜ face (outcome (Call.Load (now (words .entry)) (now (bytes .entry)))) (now (rows .entry) ∷ [])
+        ≡ record { number = r; outs = now (rows .exit) ∷ []; lent = now (words .exit) ∷ [] } ⌝ }
+{
+    match loads::load(words, bytes) {
+        Loading::Rows(n) => {
+            *rows = n as u32;
+            0
+        }
+        Loading::Refused(r) => base::refusal_number(r),
+    }
+}

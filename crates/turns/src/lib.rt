@@ -1,0 +1,75 @@
+// What one line of a script does to a record, and what it is answered.
+use asks::Standing;
+use base::DocNo;
+use base::Refusal;
+use lines::Command;
+use lines::Reply;
+use moves::Opened;
+use navigates::Navigated;
+use traverses::Traversed;
+ghost use mathlib.Core.Path.{_≡_};
+ghost use Rattle.base.specs.Numbers.{numberOf};
+ghost use Rattle.rules.specs.Calls.{Call, outcome};
+ghost use Rattle.turns.specs.Turns.{replyIs, okAt, deniedAt, standing, Leaves, gone, turned};
+
+// The answer to an accepted call: its number, and where the window stands.
+fn accept(words: &[u32], v: usize) -> Reply
+    ensures { λ r. ⌜ replyIs r ≡ okAt (standing (now (words .entry))) v ⌝ }
+{
+    match asks::position(words) {
+        Standing::At(p, s, _) => Reply::Ok(v, p, s),
+        Standing::Refused(r) => Reply::No(r, 0, 0),
+    }
+}
+
+// The answer to a refused call: why, and where the window stands.
+fn deny(words: &[u32], why: Refusal) -> Reply
+    ensures { λ r. ⌜ replyIs r ≡ deniedAt (standing (now (words .entry))) (numberOf why) ⌝ }
+{
+    match asks::position(words) {
+        Standing::At(p, s, _) => Reply::No(why, p, s),
+        Standing::Refused(r) => Reply::No(r, 0, 0),
+    }
+}
+
+// `open P`
+fn open_line(words: &mut [u32], parent: DocNo) -> Reply
+    ensures { λ r. ⌜ Leaves (outcome (Call.Open (now (words .entry)) (parent .0))) (replyIs r) (now (words .exit)) ⌝ }
+{
+    match moves::open_frame(words, parent) {
+        Opened::Numbers(d, _) => accept(words, d.0 as usize),
+        Opened::Refused(r) => deny(words, r),
+    }
+}
+
+// `nav D`
+fn nav_line(words: &mut [u32], from: DocNo) -> Reply
+    ensures { λ r. ⌜ Leaves (outcome (Call.Navigate (now (words .entry)) (from .0))) (replyIs r) (now (words .exit)) ⌝ }
+{
+    match navigates::navigate(words, from) {
+        Navigated::Arrived(d) => accept(words, d.0 as usize),
+        Navigated::Refused(r) => deny(words, r),
+    }
+}
+
+// `go N`
+fn go_line(words: &mut [u32], changes: &mut [u32], delta: i32) -> Reply
+    ensures { λ r. ⌜ gone (outcome (Call.Traverse (now (words .entry)) delta (now (changes .entry)))) ≡ record { said = replyIs r; words = now (words .exit); changes = now (changes .exit) } ⌝ }
+{
+    match traverses::traverse(words, delta, changes) {
+        Traversed::Changes(n) => accept(words, n),
+        Traversed::Refused(r) => deny(words, r),
+    }
+}
+
+// What a line does: the record and the change words are then those of the definition, and the answer too.
+pub fn turn(words: &mut [u32], changes: &mut [u32], line: &[u8]) -> Reply
+    ensures { λ r. ⌜ turned (now (words .entry)) (now (changes .entry)) (now (line .entry)) ≡ record { said = replyIs r; words = now (words .exit); changes = now (changes .exit) } ⌝ }
+{
+    match lines::parse(line) {
+        Command::Open(p) => open_line(words, p),
+        Command::Nav(d) => nav_line(words, d),
+        Command::Go(delta) => go_line(words, changes, delta),
+        Command::Bad => Reply::Bad,
+    }
+}

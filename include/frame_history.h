@@ -1,0 +1,110 @@
+/* The joint session history of one window, kept in a run of 32-bit words that the host lends.
+
+   Each call returns 0, or the number of the refusal (below). A refused call changes no word and no byte that was lent to it:
+   the record, the answer runs and the out words all keep what they held.
+
+   A lent run is a pointer and then a count of elements (not of bytes). The library keeps no pointer after a call returns.
+   Pointers are aligned for their type and not null, even where the count is 0. Runs and out words of one call must not overlap,
+   except that two runs that are both only read may. Calls on different records may run at the same time; calls that write
+   the same record may not.
+
+   How much to lend:
+     a record of C rows has 3 + 4C words; C is (words - 3) / 4 rounded down, at least 1 and at most 512. Words past 3 + 4C are neither
+       read nor written. A row is one document, so C is how many documents the window can hold at a time;
+     change rows: four words a frame are always enough;
+     lists: as many words as there are steps, in each run, are always enough; so are C;
+     outline: two words a row are always enough;
+     saved bytes: 12 + 16F + 4n for F frames and n rows, so 12 + 20C are always enough, and 10252 for any record. */
+#ifndef FRAME_HISTORY_H
+#define FRAME_HISTORY_H
+
+#include <stddef.h>
+#include <stdint.h>
+
+#ifdef __cplusplus
+extern "C" {
+#endif
+
+/* The nine ways to say no. Where several apply, the smallest number is given. */
+enum {
+  FRAME_HISTORY_SHORT_RECORD = 1, /* the record is under 7 words */
+  FRAME_HISTORY_UNSOUND = 2,      /* the record is unsound */
+  FRAME_HISTORY_NOT_SAVED = 3,    /* the bytes are not bytes that frame_history_save writes */
+  FRAME_HISTORY_ABSENT = 4,       /* the document is not in the record */
+  FRAME_HISTORY_HIDDEN = 5,       /* the document is there, but not visible */
+  FRAME_HISTORY_BEYOND = 6,       /* position + delta is below 0 or above steps; or a list is too short for the stretch */
+  FRAME_HISTORY_FULL = 7,         /* no row is left */
+  FRAME_HISTORY_USED_UP = 8,      /* the next document number, or for open the next frame number, is 4294967295 */
+  FRAME_HISTORY_SHORT_BUFFER = 9  /* a lent answer run is too short */
+};
+
+/* Writes the record of a new window: document 0 in the root frame, frame 0. What the words held does not matter.
+   Lent to write: the record, of 7 words or more.
+   Refused: 1. */
+uint32_t frame_history_fresh(uint32_t *words, size_t words_count);
+
+/* Opens a frame under the visible document `parent`.
+   Lent to write: the record. Out: the numbers of the new document and of its frame; both kept on refusal.
+   Refused: 1, 2, 4, 5, 7, 8. */
+uint32_t frame_history_open(uint32_t *words, size_t words_count, uint32_t parent, uint32_t *document, uint32_t *frame);
+
+/* Navigates from the visible document `from`, in its frame. The upcoming steps go, with all that hangs on them.
+   Lent to write: the record. Out: the number of the new document; kept on refusal.
+   Refused: 1, 2, 4, 5, 7, 8. */
+uint32_t frame_history_navigate(uint32_t *words, size_t words_count, uint32_t from, uint32_t *document);
+
+/* Goes `delta` steps forward, or back where it is negative; 0 changes nothing.
+   Lent to write: the record, and `changes` for change rows of four words each, one for each frame whose shown document changes, by
+   rising frame number: frame, document before, document after, and 1 if the latter is visible then, else 0.
+   Words of `changes` past those rows are kept. Out: how many change rows; kept on refusal.
+   Refused: 1, 2, 6, 9. */
+uint32_t frame_history_traverse(uint32_t *words, size_t words_count, int32_t delta, uint32_t *changes, size_t changes_count,
+                                uint32_t *count);
+
+/* Where the window stands.
+   Lent to read: the record. Out: the position, the steps, and the length for scripts; all kept on refusal.
+   Refused: 1, 2. */
+uint32_t frame_history_position(const uint32_t *words, size_t words_count, uint32_t *position, uint32_t *steps, uint32_t *length);
+
+/* Whether a document is visible.
+   Lent to read: the record. Out: 1 or 0; kept on refusal.
+   Refused: 1, 2, 4. */
+uint32_t frame_history_visible(const uint32_t *words, size_t words_count, uint32_t document, uint32_t *answer);
+
+/* The documents of the taken steps, latest first, and of the upcoming steps, earliest first.
+   Lent to read: the record. Lent to write: a run for each list; words past a list are kept.
+   Out: how many entries each list has; both kept on refusal.
+   Refused: 1, 2, 9. */
+uint32_t frame_history_lists(const uint32_t *words, size_t words_count, uint32_t *taken, size_t taken_count, uint32_t *upcoming,
+                             size_t upcoming_count, uint32_t *takens, uint32_t *upcomings);
+
+/* How many entries a move by `delta` takes of the host's own two lists: of `taken` where delta is negative, else of `upcoming`. They
+   are the first entries of that list.
+   Lent to read: both lists. Out: how many entries; kept on refusal.
+   Refused: 6, where the list is shorter than that. */
+uint32_t frame_history_stretch(const uint32_t *taken, size_t taken_count, const uint32_t *upcoming, size_t upcoming_count,
+                               int32_t delta, uint32_t *count);
+
+/* The visible documents as pairs of two words, depth and document: the root document at depth 0, and beneath each document its
+   frames by rising frame number.
+   Lent to read: the record. Lent to write: `pairs`, of two words a pair; words past the pairs are kept.
+   Out: how many pairs; kept on refusal.
+   Refused: 1, 2, 9. */
+uint32_t frame_history_outline(const uint32_t *words, size_t words_count, uint32_t *pairs, size_t pairs_count, uint32_t *count);
+
+/* Writes the saved form of the record.
+   Lent to read: the record. Lent to write: `bytes`; bytes past the saved form are kept.
+   Out: its length in bytes; kept on refusal.
+   Refused: 1, 2, 9. */
+uint32_t frame_history_save(const uint32_t *words, size_t words_count, uint8_t *bytes, size_t bytes_count, uint32_t *length);
+
+/* Fills a record from bytes that frame_history_save wrote. What the words held does not matter. `bytes_count` is the saved length.
+   Lent to write: the record. Lent to read: the bytes. Out: how many rows the record has; kept on refusal.
+   Refused: 1, 3, 7. */
+uint32_t frame_history_load(uint32_t *words, size_t words_count, const uint8_t *bytes, size_t bytes_count, uint32_t *rows);
+
+#ifdef __cplusplus
+}
+#endif
+
+#endif
