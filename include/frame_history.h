@@ -3,7 +3,7 @@
    Each call returns 0, or the number of the refusal (below). A refused call changes no word and no byte that was lent to it:
    the record, the answer runs and the out words all keep what they held.
 
-   A lent run is a pointer and then a count of elements (not of bytes). The library keeps no pointer after a call returns.
+   A lent run is a pointer and then a count of elements (not of bytes). The library keeps no pointer after a call returns and allocates nothing.
    Pointers are aligned for their type and not null, even where the count is 0. Runs and out words of one call must not overlap,
    except that two runs that are both only read may. Calls on different records may run at the same time; calls that write
    the same record may not.
@@ -12,7 +12,7 @@
      a record of C rows has 3 + 4C words; C is (words - 3) / 4 rounded down, at least 1 and at most 512. Words past 3 + 4C are neither
        read nor written. A row is one document, so C is how many documents the window can hold at a time;
      change rows: four words a frame are always enough;
-     lists: as many words as there are steps, in each run, are always enough; so are C;
+     lists: C words in each run are always enough, and so are as many as there are steps;
      outline: two words a row are always enough;
      saved bytes: 12 + 16F + 4n for F frames and n rows, so 12 + 20C are always enough, and 10252 for any record. */
 #ifndef FRAME_HISTORY_H
@@ -48,7 +48,8 @@ uint32_t frame_history_fresh(uint32_t *words, size_t words_count);
    Refused: 1, 2, 4, 5, 7, 8. */
 uint32_t frame_history_open(uint32_t *words, size_t words_count, uint32_t parent, uint32_t *document, uint32_t *frame);
 
-/* Navigates from the visible document `from`, in its frame. The upcoming steps go, with all that hangs on them.
+/* Navigates from the visible document `from`, in its frame: every upcoming step of the window goes, with everything beneath those,
+   and a new document is shown in place of `from`, which stays as a step back.
    Lent to write: the record. Out: the number of the new document; kept on refusal.
    Refused: 1, 2, 4, 5, 7, 8. */
 uint32_t frame_history_navigate(uint32_t *words, size_t words_count, uint32_t from, uint32_t *document);

@@ -16,17 +16,19 @@ use Rattle.turns.specs.Turns.{Said, Turned, okAt, deniedAt, told, standi
 -- WHERE THE WINDOW STANDS
 
 module _ (words : List ℕ) (st : Standing) (e : outcome (Call.Position words) ≡ record { answer = standingIs st; lent = [] }) where
-  -- An accepted call where Position answers, and where it refuses.
+  -- An accepted call where Position answers.
   pub accept-stands : (v p s l : ℕ) → st ≡ Standings.At p s l → Said.ok v p s ≡ okAt (standing words) v
   accept-stands v p s l f = sym (ap (λ o. okAt (o .answer) v) e ∙ ap (λ x. okAt (standingIs x) v) f)
 
+  -- An accepted call where Position refuses.
   pub accept-refused : (v : ℕ) (r : Refusal) → st ≡ Standings.Refused r → Said.denied (numberOf r) 0 0 ≡ okAt (standing words) v
   accept-refused v r f = sym (ap (λ o. okAt (o .answer) v) e ∙ ap (λ x. okAt (standingIs x) v) f)
 
-  -- A refused call where Position answers, and where it refuses.
+  -- A refused call where Position answers.
   pub deny-stands : (k p s l : ℕ) → st ≡ Standings.At p s l → Said.denied k p s ≡ deniedAt (standing words) k
   deny-stands k p s l f = sym (ap (λ o. deniedAt (o .answer) k) e ∙ ap (λ x. deniedAt (standingIs x) k) f)
 
+  -- A refused call where Position refuses.
   pub deny-refused : (k : ℕ) (r : Refusal) → st ≡ Standings.Refused r → Said.denied (numberOf r) 0 0 ≡ deniedAt (standing words) k
   deny-refused k r f = sym (ap (λ o. deniedAt (o .answer) k) e ∙ ap (λ x. deniedAt (standingIs x) k) f)
 
@@ -34,29 +36,35 @@ module _ (words : List ℕ) (st : Standing) (e : outcome (Call.Position words) �
 
 -- A call that only the record is lent to.
 module _ (o : Outcome) (a : Answer) (words : List ℕ) (said : Said) (e : o ≡ record { answer = a; lent = words ∷ [] }) where
+  -- What it says is what its answer tells.
   moved-by : said ≡ told (standing words) a → Leaves o said words
   moved-by f rows =
       let made : Said → Turned = λ s. record { said = s; words = words; changes = rows } in
       ap (λ x. moved x rows) e ∙ sym (ap made f)
 
+  -- It is accepted.
   pub moved-ok : (v : ℕ) (rest : List ℕ) → a ≡ Answer.gives (v ∷ rest) → said ≡ okAt (standing words) v
       → Leaves o said words
   moved-ok v rest g f = moved-by (f ∙ sym (ap (told (standing words)) g))
 
+  -- It is refused.
   pub moved-denied : (k : ℕ) → a ≡ Answer.refuses k → said ≡ deniedAt (standing words) k
       → Leaves o said words
   moved-denied k g f = moved-by (f ∙ sym (ap (told (standing words)) g))
 
 -- A call that the change words are lent to as well.
 module _ (o : Outcome) (a : Answer) (words rows : List ℕ) (said : Said) (e : o ≡ record { answer = a; lent = words ∷ rows ∷ [] }) where
+  -- What it says is what its answer tells.
   gone-by : said ≡ told (standing words) a → gone o ≡ record { said = said; words = words; changes = rows }
   gone-by f =
       let made : Said → Turned = λ s. record { said = s; words = words; changes = rows } in
       ap gone e ∙ sym (ap made f)
 
+  -- It is accepted.
   pub gone-ok : (v : ℕ) (rest : List ℕ) → a ≡ Answer.gives (v ∷ rest) → said ≡ okAt (standing words) v → gone o ≡ record { said = said; words = words; changes = rows }
   gone-ok v rest g f = gone-by (f ∙ sym (ap (told (standing words)) g))
 
+  -- It is refused.
   pub gone-denied : (k : ℕ) → a ≡ Answer.refuses k → said ≡ deniedAt (standing words) k → gone o ≡ record { said = said; words = words; changes = rows }
   gone-denied k g f = gone-by (f ∙ sym (ap (told (standing words)) g))
 

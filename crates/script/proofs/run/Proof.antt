@@ -1,5 +1,4 @@
 -- `script::run` is safe and ends: the reads left fall. Assumes nothing.
-use Prim.Native.Nat.{_-_}
 use mathlib.Core.Path.{_≡_}
 use borrow.Author.Needs.{needs}
 use lib.ListN.{length}
