@@ -19,7 +19,7 @@ use Rattle.rules.specs.Asks.{takenList, upcomingList, ownList, stretched}
 use Rattle.rules.specs.Calls.{Call, Answer, refusals, accepted, ladder, outcome}
 use Rattle.laws.proofs.Calls.{outcome-refused}
 use Rattle.rows.specs.Held.{Before}
-use Rattle.rows.specs.Tally.{Tallied}
+use Rattle.rows.specs.Tally.{tallyOf}
 use Rattle.rows.specs.declared.Tally.{Tally}
 use Rattle.rows.proofs.Positions.{tallied-position, tallied-steps}
 use Rattle.sound.specs.Check.{checkOf, Examined}
@@ -43,10 +43,10 @@ readable words e = let h = examined-held words e in let l = examined-long words 
 
 module _ (words : List ℕ) (e : Examined words) where
   -- What the pass over the rows counted.
-  pub counted-position : (t : Tally) → Tallied (rowsOf words) (length (rowsOf words)) t → t .position ≡ position (rowsOf words)
+  pub counted-position : (t : Tally) → t ≡ tallyOf (rowsOf words) (length (rowsOf words)) → t .position ≡ position (rowsOf words)
   counted-position t h = let s = examined-sound words e .table in tallied-position (rowsOf words) (s .s6) (s .s7) t h
 
-  pub counted-steps : (t : Tally) → Tallied (rowsOf words) (length (rowsOf words)) t → t .steps ≡ steps (rowsOf words)
+  pub counted-steps : (t : Tally) → t ≡ tallyOf (rowsOf words) (length (rowsOf words)) → t .steps ≡ steps (rowsOf words)
   counted-steps t h = tallied-steps (rowsOf words) t h
 
   pub position-given : (p s : ℕ) → p ≡ position (rowsOf words) → s ≡ steps (rowsOf words) → outcome (Call.Position words) ≡ record { answer = Answer.gives (p ∷ s ∷ s ∷ []); lent = [] }

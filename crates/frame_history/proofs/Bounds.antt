@@ -1,6 +1,5 @@
 -- The counts that a call gives fit in an out word. Assumes nothing.
-use Prim.Native.Nat.{ℕ, zero, suc, _-_, _*_, _/_, _≤_}
-use mathlib.Core.Bool.{Bool}
+use Prim.Native.Nat.{ℕ, _-_, _*_, _/_, _≤_}
 use mathlib.Core.List.{List, [], _∷_, flatMap}
 use mathlib.Core.Path.{_≡_, sym, ap, _∙_}
 use native.Mathlib.Omega.{arith}
@@ -10,7 +9,6 @@ use lib.ListN.{length, getD, length-append}
 use mir.Syntax.{w32}
 use mir.Val.{SFits}
 use borrow.Author.Tests.{ltb-false, not-false}
-use Rattle.rules.specs.Below.{count}
 use Rattle.rules.specs.Rows.{Row, Table, none}
 use Rattle.rules.specs.Steps.{isStep, position, steps}
 use Rattle.rules.specs.Moves.{walked, frames, changeRow, changes, shownDoc}
@@ -18,13 +16,13 @@ use Rattle.rules.specs.Words.{capacity, tableOf, rowsOf}
 use Rattle.rules.specs.Asks.{takenList, upcomingList, outlineOf}
 use Rattle.rules.specs.Saved.{saved, loaded}
 use Rattle.rules.specs.Calls.{Call, Answer, refusals, accepted, outcome, NoneGiven}
-use Rattle.laws.proofs.Tests.{test}
+use Rattle.laws.proofs.Tests.{test, count-most}
 use Rattle.laws.proofs.Calls.{by-ladder, outcome-accepted, outcome-refused}
 use Rattle.laws.proofs.Central.{position-steps}
 use Rattle.laws.proofs.Lists.{taken-length, upcoming-length}
 use Rattle.laws.proofs.Trips.{saved-length, frames-few}
 use Rattle.sound.proofs.Checks.{examined-sound, examined-held}
-use Rattle.outlines.proofs.Outlines.{outline-bound}
+use Rattle.laws.proofs.Outlines.{outline-bound}
 
 -- The k-th value of an answer.
 abbrev value : ℕ → Answer → ℕ
@@ -44,11 +42,6 @@ module _ (c : Call) (a : Answer) (runs : List (List ℕ)) (values : List ℕ) (e
   given-is = ap (λ o. o .answer) (sym (outcome-accepted c not-refused) ∙ e) ∙ g
 
 -- No more steps than rows.
-count-most : (p : ℕ → Bool) (n : ℕ) → count p n ≤ n
-unfolding count
-count-most p zero = omega arith
-count-most p (suc n) = let m = count-most p n in test (p n) (λ t. rw t (omega arith)) (λ f. rw f (omega arith))
-
 steps-most : (rows : List Row) → steps rows ≤ length rows
 unfolding steps
 steps-most rows = count-most (isStep rows) (length rows)

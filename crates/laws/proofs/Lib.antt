@@ -21,3 +21,6 @@ pub mod Told
 pub mod Trips
 pub mod Loads
 pub mod Appended
+pub mod OutlineTexts
+pub mod OutlineWeights
+pub mod Outlines

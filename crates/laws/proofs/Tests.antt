@@ -124,6 +124,19 @@ module _ (p : ℕ → Bool) where
       (λ l. count-no n (none n (le-of-suc-le-suc l) (omega arith)) ∙ count-flat n (le-of-suc-le-suc l) (λ k a b. none k a (omega arith)))
       (eq-or-lt-of-le h)
 
+  -- At most all; fewer where one fails.
+  pub count-most : (n : ℕ) → count p n ≤ n
+  count-most zero = omega (arith, count-zero)
+  count-most (suc n) = let h = count-most n in test (p n) (λ t. omega (arith, count-yes n t)) (λ f. omega (arith, count-no n f))
+
+  pub count-misses : (n : ℕ) {i : ℕ} → i < n → p i ≡ false → count p n < n
+  count-misses zero l f = absurd (not-suc-le-zero l)
+  count-misses (suc n) {i} l f =
+      ⊎-elim
+      (λ e. omega (arith, count-no n (rw e at f), count-most n))
+      (λ m. let h = count-misses n m f in test (p n) (λ t. omega (arith, count-yes n t)) (λ g. omega (arith, count-no n g)))
+      (below-cases l)
+
   -- Where all below n pass, n do.
   pub count-all : (n : ℕ) → ((i : ℕ) → i < n → So (p i)) → count p n ≡ n
   count-all zero h = count-zero

@@ -1,10 +1,9 @@
 -- When Navigate is refused: the judges' answers, and what an accepted call may rely on. Assumes nothing.
-use Prim.Native.Nat.{ℕ, zero, suc, _≤_, _<_}
+use Prim.Native.Nat.{ℕ, suc, _≤_, _<_}
 use mathlib.Core.Bool.{Bool, true, false, not, _&&_, So, and-eq-true-iff}
 use mathlib.Core.List.{List, [], _∷_}
-use mathlib.Core.Logic.{_≢_, _⊎_, inl, inr}
+use mathlib.Core.Logic.{_≢_, inl, inr}
 use mathlib.Core.Path.{_≡_, refl, sym, subst, _∙_}
-use native.Mathlib.Nat.{not-suc-le-zero}
 use native.Mathlib.Omega.{arith}
 use lib.Dec.{eqb}
 use lib.ListN.{length}
@@ -19,7 +18,7 @@ use Rattle.rules.specs.Moves.{without, cleared, navigated}
 use Rattle.rules.specs.Words.{capacity, tableOf, rowsOf, written}
 use Rattle.rules.specs.Calls.{Call, Answer, full, refusals, accepted, outcome, Given, NoneGiven}
 use Rattle.laws.proofs.Calls.{outcome-accepted, outcome-refused}
-use Rattle.laws.proofs.Tests.{test, clash, off, same-tests, below-cases, some-in, some-out, count-yes, count-no, count-in, count-same, count-split, count-all, count-zero}
+use Rattle.laws.proofs.Tests.{test, clash, off, same-tests, some-in, some-out, count-in, count-same, count-split, count-all, count-misses}
 use Rattle.laws.proofs.Kept.{kept-length}
 use Rattle.laws.proofs.Climb.{gone-self}
 use Rattle.laws.proofs.Removal.{stays, stays-in, gone-later}
@@ -30,22 +29,6 @@ use Rattle.sound.proofs.Checks.{check-given}
 use Rattle.navigates.specs.Answers.{RoomJudged}
 
 -- WHEN NO ROW IS LEFT
-
-pub count-few : (p : ℕ → Bool) (n : ℕ) → count p n ≤ n
-count-few p zero = omega (arith, count-zero p)
-count-few p (suc n) = let h = count-few p n in test (p n) (λ t. omega (arith, count-yes p n t)) (λ f. omega (arith, count-no p n f))
-
--- With one that does not pass there are fewer.
-count-fewer : (p : ℕ → Bool) (n : ℕ) {v : ℕ} → v < n → p v ≡ false → count p n < n
-count-fewer p zero l f = absurd (not-suc-le-zero l)
-count-fewer p (suc n) {v} l f =
-    test (p n)
-    (λ t. let h = count-fewer p n {v = v} (earlier (below-cases l) t f) f in omega (arith, count-yes p n t))
-    (λ o. omega (arith, count-no p n o, count-few p n))
-  where
-    earlier : {v n : ℕ} → ((v ≡ n) ⊎ (v < n)) → So (p n) → p v ≡ false → v < n
-    earlier (inl e) t f = absurd (clash (rw e t) f)
-    earlier (inr l) t f = l
 
 module _ (rows : List Row) where
   pub none-upcoming : steps rows ≡ position rows → (v : ℕ) → v < length rows → upcoming rows v ≡ false
@@ -79,7 +62,7 @@ module _ (rows : List Row) where
   fewer-stay : (steps rows ≡ position rows → ⊥) → length (cleared rows) < length rows
   fewer-stay ne =
       let v = some-out (upcoming rows) (length rows) (some-upcoming ne) in
-      let h = count-fewer (stays (upcoming rows) rows) (length rows) (v .1) (rw (gone-self (upcoming rows) rows (v .0) (v .2)) refl) in
+      let h = count-misses (stays (upcoming rows) rows) (length rows) (v .1) (rw (gone-self (upcoming rows) rows (v .0) (v .2)) refl) in
       omega (arith, cleared-length)
 
 pub full-is : (words : List ℕ) (n c p s : ℕ) → n ≡ length (rowsOf words) → c ≡ capacity words → length (rowsOf words) ≤ capacity words → p ≡ position (rowsOf words) → s ≡ steps (rowsOf words) →

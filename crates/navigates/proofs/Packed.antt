@@ -13,7 +13,7 @@ use Rattle.rules.specs.Rows.{Row, none, rowAt}
 use Rattle.rules.specs.Steps.{upcoming}
 use Rattle.rules.specs.Moves.{without, cleared}
 use Rattle.rules.specs.Words.{put, capacity, rowIn, tableOf, rowsOf, rowWords}
-use Rattle.laws.proofs.Tests.{test, count-yes, count-no, count-all, count-in, length-gather, gather-at}
+use Rattle.laws.proofs.Tests.{test, count-yes, count-no, count-all, count-in, length-gather, gather-at, count-most}
 use Rattle.laws.proofs.Removal.{SoundRows, sound-rows, stays}
 use Rattle.laws.proofs.Words.{rows-length, rows-row, length-words}
 use Rattle.laws.proofs.Writes.{length-put, put-put, put-same, get-put-in, get-put-past, get-put-before}
@@ -22,7 +22,7 @@ use Rattle.rows.proofs.Tallies.{Earliest, earliest-out}
 use Rattle.sound.specs.Check.{Examined}
 use Rattle.sound.proofs.Checks.{examined-sound, examined-held}
 use Rattle.navigates.specs.Packing.{joins, Moved}
-use Rattle.navigates.proofs.Judges.{count-few, cleared-length}
+use Rattle.navigates.proofs.Judges.{cleared-length}
 use Rattle.navigates.proofs.Stays.{early-stays, joins-is}
 
 -- THE WORDS OF ROWS
@@ -117,7 +117,7 @@ module _ (old : List ℕ) (e : Examined old) (word : tableOf old .nextDoc ≤ no
   held = examined-held old e
 
   fewer : (i : ℕ) → i ≤ length (rowsOf old) → length (keptTo old i) ≤ length (rowsOf old)
-  fewer i l = omega (arith, length-gather (keepIn old) (rowAt (rowsOf old)) i, count-few (keepIn old) i)
+  fewer i l = omega (arith, length-gather (keepIn old) (rowAt (rowsOf old)) i, count-most (keepIn old) i)
 
   -- What a turn may rely on.
   pub packed-within : (i k : ℕ) (new : List ℕ) → Packed old i k new → i < length (rowsOf old) → Within new i × (k ≤ i)
@@ -126,7 +126,7 @@ module _ (old : List ℕ) (e : Examined old) (word : tableOf old .nextDoc ≤ no
       let a : length (rowsOf new) ≡ length (rowsOf old) = ap (λ w. length (rowsOf w)) (p .packed) ∙ over-length old held (keptTo old i) few in
       let b : capacity new ≡ capacity old = ap capacity (p .packed) ∙ over-capacity old held (keptTo old i) few in
       let h = held in
-      (record { held = omega arith; below = omega arith }, omega (arith, p .places, count-few (keepIn old) i))
+      (record { held = omega arith; below = omega arith }, omega (arith, p .places, count-most (keepIn old) i))
 
   module _ (start : ℕ) (first : start ≡ earliest (upcoming (rowsOf old)) (length (rowsOf old))) where
     begins : Earliest (upcoming (rowsOf old)) (length (rowsOf old)) start
@@ -155,7 +155,7 @@ module _ (old : List ℕ) (e : Examined old) (word : tableOf old .nextDoc ≤ no
         let few = fewer i (omega arith) in
         let size = length-gather (keepIn old) (rowAt (rowsOf old)) i in
         let test-there = joins-is (rowsOf old) sound-in (rowsOf (put old 3 (flatMap rowWords (keptTo old i)))) i l
-        (over-rest old held (keptTo old i) few i (omega (arith, count-few (keepIn old) i)) l)
+        (over-rest old held (keptTo old i) few i (omega (arith, count-most (keepIn old) i)) l)
         (λ j m t. over-row old held (keptTo old i) few (count (keepIn old) j) (omega (arith, count-in (keepIn old) i m t)) ∙ gather-at (keepIn old) (rowAt (rowsOf old)) i _ m t)
         start late (begins .passes (omega arith)) in
         ap (λ w. joins (rowsOf w) k i) (p .packed) ∙ ap (λ x. joins (rowsOf (put old 3 (flatMap rowWords (keptTo old i)))) x i) (p .places) ∙ test-there
@@ -167,7 +167,7 @@ module _ (old : List ℕ) (e : Examined old) (word : tableOf old .nextDoc ≤ no
         let few = fewer i (omega arith) in
         let size = length-gather (keepIn old) (rowAt (rowsOf old)) i in
         let row : rowAt (rowsOf new) i ≡ rowAt (rowsOf old) i =
-        ap (λ w. rowAt (rowsOf w) i) (p .packed) ∙ over-rest old held (keptTo old i) few i (omega (arith, count-few (keepIn old) i)) l in
+        ap (λ w. rowAt (rowsOf w) i) (p .packed) ∙ over-rest old held (keptTo old i) few i (omega (arith, count-most (keepIn old) i)) l in
         let place : 3 + 4 * k ≡ 3 + length (flatMap rowWords (keptTo old i)) = omega (arith, p .places, length-words (keptTo old i)) in
         subst (λ x. Packed old x r next) (sym (add-one i)) (test (keepIn old i)
         (λ s.

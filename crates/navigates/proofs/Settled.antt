@@ -16,7 +16,7 @@ use Rattle.rules.specs.Rows.{Row, none, noRow, rowAt, docAt, frameAt, parentAt,
 use Rattle.rules.specs.Steps.{upcoming, position, visibleAt}
 use Rattle.rules.specs.Moves.{without, cleared, hide, navigated}
 use Rattle.rules.specs.Words.{put, capacity, tableOf, rowsOf, rowWords, wordsOf, written}
-use Rattle.laws.proofs.Tests.{test, some-in, count-in, gather-from}
+use Rattle.laws.proofs.Tests.{test, some-in, count-in, gather-from, count-most}
 use Rattle.laws.proofs.Flags.{flags-length, flags-row}
 use Rattle.laws.proofs.Central.{central}
 use Rattle.laws.proofs.Append.{length-snoc}
@@ -29,7 +29,7 @@ use Rattle.laws.proofs.Writes.{put-one, put-put, put-far, put-before, put-same,
 use Rattle.rows.specs.Held.{Within}
 use Rattle.sound.proofs.Checks.{examined-sound, examined-held}
 use Rattle.navigates.specs.Packing.{settled}
-use Rattle.navigates.proofs.Judges.{Free, cleared-length, count-few}
+use Rattle.navigates.proofs.Judges.{Free, cleared-length}
 use Rattle.navigates.proofs.Packed.{words-snoc, over-length, over-capacity, over-row}
 
 -- ONE WORD WRITTEN ANEW
@@ -116,7 +116,7 @@ module _ (old : List ℕ) (d : ℕ) (f : Free old d) (word : tableOf old .nextDo
   held = examined-held old (f .examined)
 
   clear-fewer : length c ≤ length rows
-  clear-fewer = omega (arith, cleared-length rows, count-few (stays (upcoming rows) rows) (length rows))
+  clear-fewer = omega (arith, cleared-length rows, count-most (stays (upcoming rows) rows) (length rows))
 
   -- d's row stays.
   stayed : (k : ℕ) × (k < length c) × (docAt c k ≡ d)

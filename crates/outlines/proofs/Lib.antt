@@ -1,5 +1,3 @@
+pub mod Stores
 pub mod Nexts
-pub mod Texts
-pub mod Weights
-pub mod Outlines
 pub mod Ways

@@ -1,6 +1,6 @@
 -- The steps up to the last shown one are the position. Assumes nothing.
 use Prim.Native.Nat.{ℕ, zero, suc, _-_, _<_}
-use mathlib.Core.Bool.{Bool, true, _&&_, So, cond, and-eq-true-iff}
+use mathlib.Core.Bool.{Bool, _&&_, So, cond, and-eq-true-iff}
 use mathlib.Core.List.{List}
 use mathlib.Core.Path.{_≡_, refl, sym, ap, subst, _∙_}
 use native.Mathlib.Omega.{arith}
@@ -12,7 +12,7 @@ use Rattle.rules.specs.Sound.{S6, S7}
 use Rattle.laws.proofs.Tests.{test, off, by-lt, some-in, some-out, nth, count-yes}
 use Rattle.laws.proofs.Frames.{due, due-out, last-out, shows, next-shows, next-last}
 use Rattle.laws.proofs.Central.{central, at-shown, position-steps}
-use Rattle.rows.specs.Tally.{passed, Tallied}
+use Rattle.rows.specs.Tally.{passed, tallyOf}
 use Rattle.rows.specs.declared.Tally.{Tally}
 
 module _ (rows : List Row) where
@@ -54,9 +54,10 @@ module _ (rows : List Row) where
         passed-last (length rows) ∙ rw (off (someBelow (length rows) shownStep) (λ s. let k = some-out shownStep (length rows) s in omega (arith, shown-early (k .0) (k .2)))) (omega arith))
 
     -- What the pass counted.
-    pub tallied-position : (t : Tally) → Tallied rows (length rows) t → t .position ≡ position rows
-    tallied-position t h = h .position-is ∙ passed-position
+    pub tallied-position : (t : Tally) → t ≡ tallyOf rows (length rows) → t .position ≡ position rows
+    unfolding tallyOf
+    tallied-position t e = ap (λ t. t .position) e ∙ passed-position
 
-  pub tallied-steps : (t : Tally) → Tallied rows (length rows) t → t .steps ≡ steps rows
-  unfolding steps
-  tallied-steps t h = h .steps-are
+  pub tallied-steps : (t : Tally) → t ≡ tallyOf rows (length rows) → t .steps ≡ steps rows
+  unfolding steps tallyOf
+  tallied-steps t e = ap (λ t. t .steps) e

@@ -1,8 +1,7 @@
 -- What one pass over the rows counts, and the lowest frame number from a bound on. Definitions.
-use Prim.Native.Nat.{ℕ, zero, suc, _≤_, _<_}
+use Prim.Native.Nat.{ℕ, zero, suc, max, _≤_, _<_}
 use mathlib.Core.Bool.{_&&_, cond}
 use mathlib.Core.List.{List}
-use mathlib.Core.Path.{_≡_}
 use lib.Dec.{leb, ltb}
 use Rattle.rules.specs.Below.{count, earliest}
 use Rattle.rules.specs.Rows.{Row, Table, frameAt, isShown, isFrame}
@@ -18,12 +17,14 @@ unfoldable pub passed : List Row → ℕ → ℕ
 passed rows zero = 0
 passed rows (suc i) = cond (isStep rows i && isShown rows i) (count (isStep rows) (suc i)) (passed rows i)
 
--- t tells of the rows before i.
-pub record Tallied (rows : List Row) (i : ℕ) (t : Tally) : Type 0 where
-  pub steps-are : t .steps ≡ count (isStep rows) i
-  pub position-is : t .position ≡ passed rows i
-  pub few : t .steps ≤ i
-  pub under : Under (frameAt rows) i (t .high .0)
+-- The highest frame number before i.
+unfoldable pub highest : List Row → ℕ → ℕ
+highest rows zero = 0
+highest rows (suc i) = max (highest rows i) (frameAt rows i)
+
+-- What the pass has counted before i.
+unfoldable pub tallyOf : List Row → ℕ → Tally
+tallyOf rows i = record { steps = count (isStep rows) i; position = passed rows i; high = record { 0 = highest rows i } }
 
 abbrev pub lowerOf : ℕ → ℕ → ℕ → ℕ
 lowerOf f from best = cond (ltb f from) best (cond (leb best f) best f)

@@ -3,7 +3,7 @@ use base::DocNo;
 use base::FrameNo;
 use base::RowPlace;
 ghost use mathlib.Core.Path.{_≡_};
-ghost use Prim.Native.Nat.{_+_, _<_, _≤_};
+ghost use Prim.Native.Nat.{_+_, _<_, max};
 ghost use mathlib.Core.Bool.{cond};
 ghost use lib.ListN.{length};
 ghost use Rattle.rules.specs.Rows.{docAt, frameAt, parentAt, shownAt, isShown, isDoc};
@@ -11,7 +11,7 @@ ghost use Rattle.rules.specs.Steps.{same, isStep};
 ghost use Rattle.rules.specs.Words.{capacity, tableOf, rowsOf};
 ghost use Rattle.rows.specs.Held.{Before, Within};
 ghost use Rattle.rows.specs.Found.{foundBelow};
-ghost use Rattle.rows.specs.Tally.{Under, Tallied, lowerOf, frameFrom};
+ghost use Rattle.rows.specs.Tally.{Under, tallyOf, lowerOf, frameFrom};
 
 // No parent; all numbers used.
 pub const NONE: u32 = 4294967295;
@@ -167,7 +167,7 @@ pub fn previous_under(words: &[u32], at: RowPlace, high: FrameNo) -> Found
 
 // The higher of two frame numbers.
 pub fn higher(a: FrameNo, b: FrameNo) -> FrameNo
-    ensures { λ r. ⌜ (a .0 ≤ r .0) × (b .0 ≤ r .0) ⌝ }
+    ensures { λ r. ⌜ r .0 ≡ max (a .0) (b .0) ⌝ }
 {
     if a.0 < b.0 { b } else { a }
 }
@@ -183,7 +183,7 @@ pub fn is_step(words: &[u32], at: RowPlace, high: FrameNo) -> bool
     }
 }
 
-// Steps so far, how many of them up to the last shown one, and a bound on the frame numbers so far.
+// Steps so far, how many of them up to the last shown one, and the highest frame number so far.
 pub struct Tally {
     pub steps: usize,
     pub position: usize,
@@ -199,8 +199,8 @@ fn either(first: bool, a: usize, b: usize) -> usize
 
 // The tally with one row more.
 fn tally_row(words: &[u32], at: RowPlace, t: Tally) -> Tally
-    requires { ⌜ Within (now words) (at .0) × Tallied (rowsOf (now words)) (at .0) t ⌝ }
-    ensures { λ r. ⌜ Tallied (rowsOf (now (words .entry))) (at .0 + 1) r ⌝ }
+    requires { ⌜ Within (now words) (at .0) × (t ≡ tallyOf (rowsOf (now words)) (at .0)) ⌝ }
+    ensures { λ r. ⌜ r ≡ tallyOf (rowsOf (now (words .entry))) (at .0 + 1) ⌝ }
 {
     let step = is_step(words, at, t.high);
     let steps = t.steps + step as usize;
@@ -215,7 +215,7 @@ fn tally_row(words: &[u32], at: RowPlace, t: Tally) -> Tally
 // Steps and position of the rows in use, in one pass.
 pub fn count_steps(words: &[u32]) -> Tally
     requires { ⌜ Before (now words) 0 × (0 < length (now words)) ⌝ }
-    ensures { λ r. ⌜ Tallied (rowsOf (now (words .entry))) (length (rowsOf (now (words .entry)))) r ⌝ }
+    ensures { λ r. ⌜ r ≡ tallyOf (rowsOf (now (words .entry))) (length (rowsOf (now (words .entry)))) ⌝ }
 {
     let n = row_count(words);
     let mut t = Tally {

@@ -1,5 +1,5 @@
 -- What the pass of the test tells, in the code's shape. Assumes nothing.
-use Prim.Native.Nat.{ℕ, zero, _+_, _-_, _*_, _≤_, _<_}
+use Prim.Native.Nat.{ℕ, zero, _+_, _-_, _*_, _≤_, _<_, max}
 use mathlib.Core.Bool.{Bool, true, false, not, _&&_, _||_, cond}
 use mathlib.Core.List.{List}
 use mathlib.Core.Path.{_≡_, refl, sym, ap, subst, _∙_}
@@ -112,7 +112,7 @@ module _ (rows : List Row) (top : ℕ) where
       keep false = some-grows (isDoc rows known) i h
 
   pub passed-more : (i : ℕ) (p : Pass) (k : Look) (fine shown : Bool) (high : FrameNo) (up known : DocNo) → 0 < i → Passed rows top i p → k ≡ lookOf rows i →
-      fine ≡ rowFine rows top i → shown ≡ isShown rows i → p .high .0 ≤ high .0 → frameAt rows i ≤ high .0 → up .0 ≡ parentAt rows i → known .0 ≡ cond (k .linked && not (k .step)) (up .0) (p .known .0) →
+      fine ≡ rowFine rows top i → shown ≡ isShown rows i → high .0 ≡ max (p .high .0) (frameAt rows i) → up .0 ≡ parentAt rows i → known .0 ≡ cond (k .linked && not (k .step)) (up .0) (p .known .0) →
       Passed rows top (i + 1) (record {
         fine = p .fine && fine;
         late = p .late || k .comes;
@@ -121,7 +121,7 @@ module _ (rows : List Row) (top : ℕ) where
         high = high;
         known = known;
       })
-  passed-more i p k fine shown high up known l s e f g a b u h =
+  passed-more i p k fine shown high up known l s e f g a u h =
       record {
         fine-is = all-and (rowFine rows top) i (p .fine) fine (s .fine-is) f;
         late-is = some-or (comes rows) i (p .late) (k .comes) (s .late-is) (ap (λ k. k .comes) e);
@@ -129,7 +129,7 @@ module _ (rows : List Row) (top : ℕ) where
         frames-are = count-more (λ j. not (isStep rows j)) i (p .frames) (not (k .step)) (s .frames-are) (ap (λ k. not (k .step)) e);
         few-shown = count-within i (p .shown) shown (s .few-shown);
         few-frames = count-within i (p .frames) (not (k .step)) (s .few-frames);
-        under = under-more (frameAt rows) i (p .high .0) (high .0) (s .under) a b;
+        under = under-more (frameAt rows) i (p .high .0) (high .0) (s .under) a;
         known-is = rw (h, e) (known-more i (p .known .0) up l (s .known-is) u);
       }
 

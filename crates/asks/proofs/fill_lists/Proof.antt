@@ -58,7 +58,7 @@ fill-lists-spec =
       omega arith,
       count-more _ _ _ _ (inv .1) (c10 .is-step .ensures),
       count-within _ _ (c10 .is-step .result) (inv .2),
-      under-more _ _ _ _ (inv .3) (c .higher .ensures .0) (omega arith),
+      under-more _ _ _ _ (inv .3) (omega arith),
       filling-more (rowsOf (now (c17 .args .words))) (s .s6) (s .s7) _ _ _ _ _ _ _ _ _ _ (inv .4) (omega arith) (c10 .is-step .ensures) (inv .1) (c9 .document .ensures) (rw p at (c6 .list-step .ensures .0)) (rw p at (c6 .list-step .ensures .1)),
     ))
     (λ c. filling-lengths _ _ _ _ _ _ (c .before .loop .inv .4) .0)

@@ -58,5 +58,5 @@ first-upcoming-spec =
     let s = examined-sound _ (c8 .pre .0) .table in
     let inv = c5 .loop .inv in
     let u = upcoming-is (rowsOf (now (c8 .args .words))) (s .s6) (s .s7) _ _ _ _ (omega arith) (c3 .is-step .ensures) (inv .1) (c8 .pre .1) in
-    (omega arith, count-more _ _ _ _ (inv .1) (c3 .is-step .ensures), count-within _ _ (c3 .is-step .result) (inv .2), under-more _ _ _ _ (inv .3) (c .higher .ensures .0) (omega arith), some-more _ _ _ (inv .4) u (c2 .if1 .left)))
+    (omega arith, count-more _ _ _ _ (inv .1) (c3 .is-step .ensures), count-within _ _ (c3 .is-step .result) (inv .2), under-more _ _ _ _ (inv .3) (omega arith), some-more _ _ _ (inv .4) u (c2 .if1 .left)))
     (λ c. c .before .before .row-count .ensures ∙ first-done _ _ _ (omega arith) (omega arith) (c .before .loop .inv .4)))

@@ -1,14 +1,15 @@
 -- `rows::count_steps` meets its contract. Assumes nothing.
 use native.Mathlib.Omega.{arith}
+use mathlib.Core.Path.{_≡_}
 use Prim.Native.Nat.{_≤_, _-_}
 use Rattle.rules.specs.Words.{rowsOf}
-use Rattle.rows.specs.Tally.{Tallied}
-use Rattle.rows.proofs.Tallies.{tallies, tallied-done}
+use Rattle.rows.specs.Tally.{tallyOf}
+use Rattle.rows.proofs.Tallies.{tallies, tally-done}
 use Rattle.rows.proofs.count_steps.Statement.{statement}
 use Rattle.rows.proofs.count_steps.Tie as tie
 
 abbrev Inv-loop : tie.InvT-loop
-Inv-loop words n t₀ i₀ t i = (i ≤ n) × Tallied (rowsOf words) i t
+Inv-loop words n t₀ i₀ t i = (i ≤ n) × (t ≡ tallyOf (rowsOf words) i)
 
 abbrev μ-loop : tie.MeasureT-loop
 μ-loop words n t₀ i₀ t i = n - i
@@ -24,4 +25,4 @@ count-steps-spec =
     (λ c. search tallies)
     (λ c. search tallies)
     (λ c. search tallies)
-    (λ c. tallied-done _ _ _ (c .before .loop .inv .1) (omega arith) (omega arith)))
+    (λ c. tally-done _ _ _ (c .before .loop .inv .1) (omega arith) (omega arith)))

@@ -34,4 +34,4 @@ pass-row-spec =
     let c11 = c9 .before .before in
     let c14 = c11 .before .before .before in
     let c16 = c14 .before .before in
-    passed-more (rowsOf (now (c16 .args .words))) _ _ _ _ _ _ _ _ _ (c16 .pre .1) (c16 .pre .2) (c14 .look-at .ensures) (c11 .row-fine .ensures) (c9 .is-shown .ensures) (c4 .higher .ensures .0) (omega arith) (c .before .parent .ensures) (c .known-now .ensures)))
+    passed-more (rowsOf (now (c16 .args .words))) _ _ _ _ _ _ _ _ _ (c16 .pre .1) (c16 .pre .2) (c14 .look-at .ensures) (c11 .row-fine .ensures) (c9 .is-shown .ensures) (omega arith) (c .before .parent .ensures) (c .known-now .ensures)))

@@ -13,11 +13,11 @@ use Rattle.rules.specs.Rows.{Table, none, docAt, flag}
 use Rattle.rules.specs.Steps.{visibleAt, visible}
 use Rattle.rules.specs.Asks.{outlineOf}
 use Rattle.rules.specs.Sound.{SoundTable}
 use Rattle.laws.proofs.Tests.{test, off, clash, count-in, count-zero, count-flat, count-same, one-in, one-out}
 use Rattle.laws.proofs.Tree.{tree-of, distinct}
 use Rattle.laws.proofs.Climb.{sees-in, sees-out}
-use Rattle.outlines.proofs.Weights.{Paired, nil, pair, paired-below, weigh, outline-weighs}
-use Rattle.outlines.proofs.Texts.{outline-code}
+use Rattle.laws.proofs.OutlineWeights.{Paired, nil, pair, paired-below, weigh, outline-weighs}
+use Rattle.laws.proofs.OutlineTexts.{outline-code}
 
 paired-outline : (t : Table) → Paired (outlineOf t)
 paired-outline t = subst Paired (outline-code t none refl) (paired-below t 0 0 none (t .nextFrame))

@@ -15,12 +15,12 @@ use Rattle.rules.specs.Steps.{same, visibleAsk, visibleAt}
 use Rattle.rules.specs.Moves.{frames}
 use Rattle.rules.specs.Asks.{outlineFrame, outlineOf}
 use Rattle.rules.specs.Sound.{SoundTable}
 use Rattle.laws.proofs.Tests.{test, off, or-false, one-out}
 use Rattle.laws.proofs.Tree.{tree-of, distinct, proper}
 use Rattle.laws.proofs.Climb.{climb-none}
-use Rattle.outlines.specs.Next.{under}
-use Rattle.outlines.specs.Texts.{framesBelow, framesText, documentText}
-use Rattle.outlines.proofs.Texts.{hit, frameText, text-none, below-zero, below-suc, below-skip, outline-code}
+use Rattle.laws.specs.Outlines.{under}
+use Rattle.laws.specs.Outlines.{framesBelow, framesText, documentText}
+use Rattle.laws.proofs.OutlineTexts.{hit, frameText, text-none, below-zero, below-suc, below-skip, outline-code}
 
 -- SUMS
 

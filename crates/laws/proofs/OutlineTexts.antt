@@ -1,4 +1,4 @@
--- Laws of what is written of a part of the record. Assumes nothing.
+-- What is written of a part of the record, frame after frame. Assumes nothing.
 use Prim.Native.Nat.{ℕ, zero, suc, _+_, _-_, _≤_, _<_}
 use mathlib.Core.Bool.{Bool, false, _&&_, So, and-eq-true-iff}
 use mathlib.Core.List.{List, [], _∷_, _++_, append-nil, append-assoc, flatMap}
@@ -8,7 +8,7 @@ use native.Mathlib.Nat.{eq-or-lt-of-le, not-suc-le-zero}
 use native.Mathlib.Numerals.{add-one}
 use native.Mathlib.Omega.{arith}
 use lib.Dec.{eqb}
-use lib.ListN.{length, drop, set, length-append, length-drop}
+use lib.ListN.{length, drop, length-append, length-drop}
 use lib.Seq.{getD-drop, drop-drop}
 use borrow.Author.Tests.{eqb-true, eq-eqb}
 use Rattle.rules.specs.Below.{gather, rising}
@@ -16,24 +16,9 @@ use Rattle.rules.specs.Rows.{Row, Table, noRow, rowAt, docAt, frameAt, inFrame,
 use Rattle.rules.specs.Moves.{frames}
 use Rattle.rules.specs.Words.{put}
 use Rattle.rules.specs.Asks.{outlineFrame, outlineOf}
 use Rattle.laws.proofs.Tests.{test, off, clash, some-in}
-use Rattle.laws.proofs.Writes.{put-put}
-use Rattle.outlines.specs.Texts.{framesBelow, framesText, documentText}
-use Rattle.outlines.specs.Next.{under, NoneIn, Best}
-
--- STORES
-
--- A run of stores, and a run after it.
-pub stored-on : (a b c : List ℕ) (k j : ℕ) (xs ys zs : List ℕ) → b ≡ put a k xs → j ≡ k + length xs → zs ≡ xs ++ ys → c ≡ put b j ys → c ≡ put a k zs
-stored-on a b c k j xs ys zs e f g h = rw (h, e, f, g) (put-put xs ys a k)
-
--- Two words, and a run after them.
-pub stored-pair : (a b c e : List ℕ) (k x y : ℕ) (xs zs : List ℕ) → b ≡ set a k x → c ≡ set b (k + 1) y → zs ≡ x ∷ y ∷ xs → e ≡ put c (k + 2) xs → e ≡ put a k zs
-unfolding put
-stored-pair a b c e k x y xs zs p q r s =
-    let u : k + 1 ≡ suc k = omega arith in
-    let v : k + 2 ≡ suc (suc k) = omega arith in
-    rw (s, q, p, r, u, v) refl
+use Rattle.laws.specs.Outlines.{framesBelow, framesText, documentText}
+use Rattle.laws.specs.Outlines.{under, NoneIn, Best}
 
 -- ONE FRAME
 
