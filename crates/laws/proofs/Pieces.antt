@@ -1,6 +1,6 @@
 -- Sums, and lists made of pieces that stand one after the other. Assumes nothing.
 use Prim.Native.Nat.{ℕ, zero, suc, _+_, _-_, _*_, _≤_, _<_}
-use mathlib.Core.Bool.{Bool, false}
+use mathlib.Core.Bool.{Bool, false, _&&_, So, and-eq-true-iff}
 use mathlib.Core.List.{List, [], _∷_, _++_, flatMap, append-assoc, append-nil}
 use mathlib.Core.Logic.{_≢_, ⊎-elim}
 use mathlib.Core.Path.{_≡_, refl, sym, ap, _∙_}
@@ -11,7 +11,7 @@ use lib.ListN.{length, getD, length-append, List·getD-append}
 use lib.Seq.{getD-append-add}
 use borrow.Author.Tests.{eq-eqb, ne-eqb}
 use Rattle.rules.specs.Below.{count, sum, tab, gather, rising}
-use Rattle.laws.proofs.Tests.{test, by-lt, below-cases, count-zero, count-yes, count-no}
+use Rattle.laws.proofs.Tests.{test, clash, off, by-lt, below-cases, count-zero, count-yes, count-no}
 
 -- SUMS
 
@@ -42,6 +42,14 @@ module _ (f : ℕ → ℕ) where
   sum-zeros zero h = refl
   sum-zeros (suc n) h = omega (arith, h n (omega arith), sum-zeros n (λ k l. h k (omega arith)))
 
+-- Terms of 1 where p passes, of 0 where it does not.
+pub sum-ones : (f : ℕ → ℕ) (p : ℕ → Bool) (n : ℕ) → ((k : ℕ) → So (p k) → f k ≡ 1) → ((k : ℕ) → p k ≡ false → f k ≡ 0) → sum f n ≡ count p n
+unfolding sum
+sum-ones f p zero one none = sym (count-zero p)
+sum-ones f p (suc n) one none =
+    let ih = sum-ones f p n one none in
+    test (p n) (λ t. omega (arith, one n t, count-yes p n t)) (λ o. omega (arith, none n o, count-no p n o))
+
 -- One term is one more.
 sum-one-more : (f g : ℕ → ℕ) (m : ℕ) {a : ℕ} → a < m → g a ≡ suc (f a) → ((k : ℕ) → k ≢ a → g k ≡ f k) → sum g m ≡ suc (sum f m)
 unfolding sum
@@ -52,14 +60,20 @@ sum-one-more f g (suc m) {a} l e h =
     (λ b. omega (arith, h m (λ r. omega arith), sum-one-more f g m b e h))
     (below-cases l)
 
--- Each of n things is of one class, of m: all classes together have n.
-pub sum-classes : (class : ℕ → ℕ) (n m : ℕ) → ((i : ℕ) → i < n → class i < m) → sum (λ c. count (λ i. eqb (class i) c) n) m ≡ n
-sum-classes class zero m h = sum-zeros _ m (λ k l. count-zero (λ i. eqb (class i) k))
-sum-classes class (suc n) m h =
+-- Each of n things is of one class, of m: all classes together have as many that pass as pass.
+pub sum-classes : (class : ℕ → ℕ) (q : ℕ → Bool) (n m : ℕ) → ((i : ℕ) → i < n → class i < m) → sum (λ c. count (λ i. eqb (class i) c && q i) n) m ≡ count q n
+sum-classes class q zero m h = sum-zeros _ m (λ k l. count-zero (λ i. eqb (class i) k && q i)) ∙ sym (count-zero q)
+sum-classes class q (suc n) m h =
+    let ih = sum-classes class q n m (λ i l. h i (omega arith)) in
+    test (q n)
+    (λ t.
     sum-one-more _ _ m {a = class n} (h n (omega arith))
-    (count-yes (λ i. eqb (class i) (class n)) n (eq-eqb (class n) (class n) refl))
-    (λ k d. count-no (λ i. eqb (class i) k) n (ne-eqb (class n) k (λ e. d (sym e))))
-    ∙ ap suc (sum-classes class n m (λ i l. h i (omega arith)))
+    (count-yes (λ i. eqb (class i) (class n) && q i) n (rw (eq-eqb (class n) (class n) refl) t))
+    (λ k d. count-no (λ i. eqb (class i) k && q i) n (rw (ne-eqb (class n) k (λ e. d (sym e))) refl))
+    ∙ ap suc ih ∙ sym (count-yes q n t))
+    (λ f.
+    sum-same _ _ m (λ k l. count-no (λ i. eqb (class i) k && q i) n (off _ (λ s. clash ((simp and-eq-true-iff at s) .1) f)))
+    ∙ ih ∙ sym (count-no q n f))
 
 -- PIECES
 

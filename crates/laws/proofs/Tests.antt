@@ -46,6 +46,10 @@ pub or-false : (a : Bool) → (a || false) ≡ a
 or-false true = refl
 or-false false = refl
 
+pub and-true : (a : Bool) → (a && true) ≡ a
+and-true true = refl
+and-true false = refl
+
 -- By the order of two numbers.
 pub below-cases : {i n : ℕ} → i < suc n → (i ≡ n) ⊎ (i < n)
 below-cases h = eq-or-lt-of-le (le-of-suc-le-suc h)

@@ -1,9 +1,9 @@
 -- Save, then Load: the table that was saved. Save's bytes have the length that document 01 says. Assumes nothing.
 use Prim.Native.Nat.{ℕ, _+_, _*_, _≤_, _<_}
-use mathlib.Core.Bool.{Bool, false, _&&_, So, and-eq-true-iff}
+use mathlib.Core.Bool.{Bool, true, false, _&&_, So, and-eq-true-iff}
 use mathlib.Core.List.{List}
 use mathlib.Core.Logic.{_≢_}
-use mathlib.Core.Path.{_≡_, refl, sym, ap, ap₂, _∙_}
+use mathlib.Core.Path.{_≡_, refl, sym, ap, ap₂, subst, _∙_}
 use native.Mathlib.Omega.{arith}
 use lib.Dec.{eqb}
 use lib.ListN.{length, getD}
@@ -13,8 +13,8 @@ use Rattle.rules.specs.Rows.{Row, Table, rowAt, docAt, frameAt, parentAt, shown
 use Rattle.rules.specs.Moves.{frames}
 use Rattle.rules.specs.Sound.{SoundTable}
 use Rattle.rules.specs.Saved.{docsOf, shownPlace, parentOf, saved, numberAt, documentsIn, toldRow, toldRows, loaded}
-use Rattle.laws.proofs.Tests.{test, clash, off, some-in, some-out, count-in, count-flat, count-zero, count-order, nth, one-out, least, earliest-is, latest-is, length-gather, gather-at, gather-from}
-use Rattle.laws.proofs.Pieces.{sum-same, sum-within, sum-least, sum-classes, length-rising}
+use Rattle.laws.proofs.Tests.{test, clash, off, and-true, some-in, some-out, count-in, count-le, count-same, count-all, count-flat, count-zero, count-order, nth, one-out, least, earliest-is, latest-is, length-gather, gather-at, gather-from}
+use Rattle.laws.proofs.Pieces.{sum-same, sum-within, sum-least, sum-ones, sum-classes, length-rising}
 use Rattle.laws.proofs.Numbers.{frameNo, documents, length-docs, length-saved, read-count, read-next-doc, read-next-frame, read-number, read-parent, read-documents, read-shown, read-body}
 use Rattle.laws.proofs.Told.{length-told, told-at, told-found, in-order}
 
@@ -42,8 +42,9 @@ module _ {room : ℕ} (t : Table) (sound : SoundTable room t) where
   pub all-documents : sum (documents t) (length (frames t)) ≡ length (t .rows)
   all-documents =
       sym (length-docs t) ∙ length-rising (docsOf (t .rows)) (isFrame (t .rows)) (t .nextFrame) (no-documents (t .rows))
-      ∙ sum-same _ _ (t .nextFrame) (λ f l. length-docsOf (t .rows) f)
-      ∙ sum-classes (frameAt (t .rows)) (length (t .rows)) (t .nextFrame) (sound .s3 .below)
+      ∙ sum-same _ _ (t .nextFrame) (λ f l. length-docsOf (t .rows) f ∙ count-same _ _ (length (t .rows)) (λ i m. sym (and-true _)))
+      ∙ sum-classes (frameAt (t .rows)) (λ i. true) (length (t .rows)) (t .nextFrame) (sound .s3 .below)
+      ∙ count-all (λ i. true) (length (t .rows)) (λ i l. refl)
 
   -- "Length 12 + 16F + 4n"
   pub saved-length : length (saved t) ≡ 12 + 16 * length (frames t) + 4 * length (t .rows)
@@ -60,6 +61,21 @@ module _ {room : ℕ} (t : Table) (sound : SoundTable room t) where
   some-documents j l =
       let k = some-out (inFrame (t .rows) (frameNo t j)) (length (t .rows)) (frame-is j l .1) in
       omega (arith, length-docsOf (t .rows) (frameNo t j), count-in (inFrame (t .rows) (frameNo t j)) (length (t .rows)) (k .1) (k .2))
+
+  -- Each frame shows one row: there are as many frames as shown rows.
+  pub shown-frames : count (isShown (t .rows)) (length (t .rows)) ≡ length (frames t)
+  unfolding isFrame
+  shown-frames =
+      let n = length (t .rows) in
+      let shownIn : ℕ → ℕ = λ f. count (λ i. inFrame (t .rows) f i && isShown (t .rows) i) n in
+      sym (sum-classes (frameAt (t .rows)) (isShown (t .rows)) n (t .nextFrame) (sound .s3 .below))
+      ∙ sum-ones shownIn (isFrame (t .rows)) (t .nextFrame)
+      (λ f s.
+      let k = some-out (inFrame (t .rows) f) n s in
+      subst (λ f. shownIn f ≡ 1) (eqb-true _ _ (k .2)) (sound .s6 .one (k .0) (k .1)))
+      (λ f o.
+      omega (arith, count-le (λ i. inFrame (t .rows) f i && isShown (t .rows) i) (inFrame (t .rows) f) n (λ k l u. (simp and-eq-true-iff at u) .0), length-docsOf (t .rows) f, no-documents (t .rows) f o))
+      ∙ sym (length-gather (isFrame (t .rows)) (λ k. k) (t .nextFrame))
 
   pub frames-few : length (frames t) ≤ length (t .rows)
   frames-few = omega (arith, sum-least (documents t) (length (frames t)) some-documents, all-documents)
