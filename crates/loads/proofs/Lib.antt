@@ -1,5 +1,6 @@
 pub mod Spots
 pub mod Sizing
+pub mod Listing
 pub mod Placing
 pub mod Judging
 pub mod Filling
