@@ -41,49 +41,49 @@ enum {
 /* Writes the record of a new window: document 0 in the root frame, frame 0. What the words held does not matter.
    Lent to write: the record, of 7 words or more.
    Refused: 1. */
-uint32_t frame_history_fresh(uint32_t *words, size_t words_count);
+uint32_t frame_history_fresh(uint32_t *words, size_t n);
 
 /* Opens a frame under the visible document `parent`.
    Lent to write: the record. Out: the numbers of the new document and of its frame; both kept on refusal.
    Refused: 1, 2, 4, 5, 7, 8. */
-uint32_t frame_history_open(uint32_t *words, size_t words_count, uint32_t parent, uint32_t *document, uint32_t *frame);
+uint32_t frame_history_open(uint32_t *words, size_t n, uint32_t parent, uint32_t *document, uint32_t *frame);
 
 /* Navigates from the visible document `from`, in its frame: every upcoming step of the window goes, with everything beneath those,
    and a new document is shown in place of `from`, which stays as a step back.
    Lent to write: the record. Out: the number of the new document; kept on refusal.
    Refused: 1, 2, 4, 5, 7, 8. */
-uint32_t frame_history_navigate(uint32_t *words, size_t words_count, uint32_t from, uint32_t *document);
+uint32_t frame_history_navigate(uint32_t *words, size_t n, uint32_t from, uint32_t *document);
 
 /* Goes `delta` steps forward, or back where it is negative; 0 changes nothing.
    Lent to write: the record, and `changes` for change rows of four words each, one for each frame whose shown document changes, by
    rising frame number: frame, document before, document after, and 1 if the latter is visible then, else 0.
    Words of `changes` past those rows are kept. Out: how many change rows; kept on refusal.
    Refused: 1, 2, 6, 9. */
-uint32_t frame_history_traverse(uint32_t *words, size_t words_count, int32_t delta, uint32_t *changes, size_t changes_count,
+uint32_t frame_history_traverse(uint32_t *words, size_t n, int32_t delta, uint32_t *changes, size_t changes_n,
                                 uint32_t *count);
 
 /* Where the window stands.
    Lent to read: the record. Out: the position, the steps, and the length for scripts; all kept on refusal.
    Refused: 1, 2. */
-uint32_t frame_history_position(const uint32_t *words, size_t words_count, uint32_t *position, uint32_t *steps, uint32_t *length);
+uint32_t frame_history_position(const uint32_t *words, size_t n, uint32_t *position, uint32_t *steps, uint32_t *length);
 
 /* Whether a document is visible.
    Lent to read: the record. Out: 1 or 0; kept on refusal.
    Refused: 1, 2, 4. */
-uint32_t frame_history_visible(const uint32_t *words, size_t words_count, uint32_t document, uint32_t *answer);
+uint32_t frame_history_visible(const uint32_t *words, size_t n, uint32_t document, uint32_t *answer);
 
 /* The documents of the taken steps, latest first, and of the upcoming steps, earliest first.
    Lent to read: the record. Lent to write: a run for each list; words past a list are kept.
    Out: how many entries each list has; both kept on refusal.
    Refused: 1, 2, 9. */
-uint32_t frame_history_lists(const uint32_t *words, size_t words_count, uint32_t *taken, size_t taken_count, uint32_t *upcoming,
-                             size_t upcoming_count, uint32_t *takens, uint32_t *upcomings);
+uint32_t frame_history_lists(const uint32_t *words, size_t n, uint32_t *taken, size_t taken_n, uint32_t *upcoming,
+                             size_t upcoming_n, uint32_t *taken_count, uint32_t *upcoming_count);
 
 /* How many entries a move by `delta` takes of the host's own two lists: of `taken` where delta is negative, else of `upcoming`. They
    are the first entries of that list.
    Lent to read: both lists. Out: how many entries; kept on refusal.
    Refused: 6, where the list is shorter than that. */
-uint32_t frame_history_stretch(const uint32_t *taken, size_t taken_count, const uint32_t *upcoming, size_t upcoming_count,
+uint32_t frame_history_stretch(const uint32_t *taken, size_t taken_n, const uint32_t *upcoming, size_t upcoming_n,
                                int32_t delta, uint32_t *count);
 
 /* The visible documents as pairs of two words, depth and document: the root document at depth 0, and beneath each document its
@@ -91,18 +91,18 @@ uint32_t frame_history_stretch(const uint32_t *taken, size_t taken_count, const 
    Lent to read: the record. Lent to write: `pairs`, of two words a pair; words past the pairs are kept.
    Out: how many pairs; kept on refusal.
    Refused: 1, 2, 9. */
-uint32_t frame_history_outline(const uint32_t *words, size_t words_count, uint32_t *pairs, size_t pairs_count, uint32_t *count);
+uint32_t frame_history_outline(const uint32_t *words, size_t n, uint32_t *pairs, size_t pairs_n, uint32_t *count);
 
 /* Writes the saved form of the record.
    Lent to read: the record. Lent to write: `bytes`; bytes past the saved form are kept.
    Out: its length in bytes; kept on refusal.
    Refused: 1, 2, 9. */
-uint32_t frame_history_save(const uint32_t *words, size_t words_count, uint8_t *bytes, size_t bytes_count, uint32_t *length);
+uint32_t frame_history_save(const uint32_t *words, size_t n, uint8_t *bytes, size_t bytes_n, uint32_t *length);
 
-/* Fills a record from bytes that frame_history_save wrote. What the words held does not matter. `bytes_count` is the saved length.
+/* Fills a record from bytes that frame_history_save wrote. What the words held does not matter. `bytes_n` is the saved length.
    Lent to write: the record. Lent to read: the bytes. Out: how many rows the record has; kept on refusal.
    Refused: 1, 3, 7. */
-uint32_t frame_history_load(uint32_t *words, size_t words_count, const uint8_t *bytes, size_t bytes_count, uint32_t *rows);
+uint32_t frame_history_load(uint32_t *words, size_t n, const uint8_t *bytes, size_t bytes_n, uint32_t *rows);
 
 #ifdef __cplusplus
 }

@@ -7,18 +7,20 @@ use mathlib.Core.Path.{_≡_, refl, sym, subst, _∙_}
 use native.Mathlib.Omega.{arith}
 use lib.Dec.{eqb}
 use lib.ListN.{length}
-use borrow.Author.Tests.{eqb-true, eqb-false, eq-eqb, ne-eqb, leb-true, leb-false, le-leb, not-false}
+use borrow.Author.Tests.{eqb-true, eqb-false, eq-eqb, ne-eqb, leb-true, leb-false, le-leb, lt-leb, not-false}
 use Rattle.base.specs.declared.Refusal.{Refusal}
 use Rattle.base.specs.declared.Refusal.the-variants.{Absent, Hidden, Full, UsedUp}
 use Rattle.base.specs.Numbers.{numberOf}
-use Rattle.rules.specs.Below.{someBelow, count}
+use Rattle.rules.specs.Below.{earliest, someBelow, count}
 use Rattle.rules.specs.Rows.{Row, none, inRecord}
 use Rattle.rules.specs.Steps.{isStep, reached, taken, upcoming, position, steps, visible}
 use Rattle.rules.specs.Moves.{without, cleared, navigated}
 use Rattle.rules.specs.Words.{capacity, tableOf, rowsOf, written}
 use Rattle.rules.specs.Calls.{Call, Answer, full, refusals, accepted, outcome, Given, NoneGiven}
 use Rattle.laws.proofs.Calls.{outcome-accepted, outcome-refused}
-use Rattle.laws.proofs.Tests.{test, clash, off, same-tests, some-in, some-out, count-in, count-same, count-split, count-all, count-misses}
+use Rattle.laws.proofs.Tests.{test, clash, off, same-tests, some-in, some-out, count-in, count-same, count-split, count-all, count-most, count-misses}
+use Rattle.laws.proofs.Loops.{earliest-none}
+use Rattle.laws.proofs.Central.{position-steps}
 use Rattle.laws.proofs.Kept.{kept-length}
 use Rattle.laws.proofs.Climb.{gone-self}
 use Rattle.laws.proofs.Removal.{stays, stays-in, gone-later}
@@ -79,6 +81,19 @@ full-is words n c p s en ec held ep es =
     test (eqb s p)
     (λ t. let y : length (cleared (rowsOf words)) ≡ length (rowsOf words) = all-stay (rowsOf words) (sym es ∙ eqb-true s p t ∙ ep) in simp and-eq-true-iff (eq-eqb n c (omega arith), t))
     (λ f. let y = fewer-stay (rowsOf words) (λ e. eqb-false s p f (es ∙ e ∙ sym ep)) in absurd (omega arith)))
+
+pub room-left-over : (words : List ℕ) (n c : ℕ) → n ≡ length (rowsOf words) → c ≡ capacity words → n < c → false ≡ full words (cleared (rowsOf words))
+room-left-over words n c en ec l =
+    sym (lt-leb (capacity words) (length (cleared (rowsOf words))) (omega (arith, cleared-length (rowsOf words), count-most (stays (upcoming (rowsOf words)) (rowsOf words)) (length (rowsOf words)))))
+
+pub full-counted : (words : List ℕ) (n c p s : ℕ) → n ≡ length (rowsOf words) → c ≡ capacity words → length (rowsOf words) ≤ capacity words → c ≤ n → p ≡ position (rowsOf words) → s ≡ steps (rowsOf words) →
+    eqb s p ≡ full words (cleared (rowsOf words))
+full-counted words n c p s en ec held l ep es = let e : eqb n c ≡ true = eq-eqb n c (omega arith) in rw e at (full-is words n c p s en ec held ep es)
+
+pub no-upcoming : (words : List ℕ) (n p s : ℕ) → n ≡ length (rowsOf words) → p ≡ position (rowsOf words) → s ≡ steps (rowsOf words) → s ≤ p → n ≡ earliest (upcoming (rowsOf words)) (length (rowsOf words))
+no-upcoming words n p s en ep es l =
+    let e : steps (rowsOf words) ≡ position (rowsOf words) = omega (arith, position-steps (rowsOf words)) in
+    en ∙ sym (earliest-none (upcoming (rowsOf words)) (length (rowsOf words)) (off _ (λ h. let k = some-out (upcoming (rowsOf words)) (length (rowsOf words)) h in clash (k .2) (none-upcoming (rowsOf words) e (k .0) (k .1)))))
 
 -- REFUSALS 7 AND 8
 

@@ -13,7 +13,7 @@ ghost use Prim.Native.Nat.{_+_, _-_, _*_, _<_, _≤_};
 ghost use lib.ListN.{length, replicate};
 ghost use Rattle.rules.specs.Below.{someBelow, earliest};
 ghost use Rattle.rules.specs.Rows.{none, frameAt, docAt, isDoc};
-ghost use Rattle.rules.specs.Steps.{same, upcoming, position as positionOf};
+ghost use Rattle.rules.specs.Steps.{same, upcoming, position as positionOf, steps as stepsOf};
 ghost use Rattle.rules.specs.Moves.{cleared, navigated};
 ghost use Rattle.rules.specs.Words.{capacity, put, tableOf, rowsOf, rowWords, written};
 ghost use Rattle.rules.specs.Calls.{Call, full, refusals, NoneGiven, outcome};
@@ -27,9 +27,11 @@ fn is_full(words: &[u32]) -> bool
     requires { ⌜ Examined (now words) ⌝ }
     ensures { λ r. ⌜ r ≡ full (now (words .entry)) (cleared (rowsOf (now (words .entry)))) ⌝ }
 {
-    let n = rows::row_count(words);
+    if rows::row_count(words) < rows::capacity(words) {
+        return false;
+    }
     let t = rows::count_steps(words);
-    (n == rows::capacity(words)) & (t.steps == t.position)
+    t.steps == t.position
 }
 
 // Refusals 7 and 8, from a visible document.
@@ -96,19 +98,26 @@ fn first_upcoming(words: &[u32], position: usize) -> RowPlace
     RowPlace(n)
 }
 
+// Where the removal begins: at the earliest upcoming step, or at the end without a scan where all steps are taken.
+fn removal_start(words: &[u32], position: usize, steps: usize) -> RowPlace
+    requires { ⌜ Examined (now words) × (position ≡ positionOf (rowsOf (now words))) × (steps ≡ stepsOf (rowsOf (now words))) ⌝ }
+    ensures { λ r. ⌜ r .0 ≡ earliest (upcoming (rowsOf (now (words .entry)))) (length (rowsOf (now (words .entry)))) ⌝ }
+{
+    if steps <= position {
+        return RowPlace(rows::row_count(words));
+    }
+    first_upcoming(words, position)
+}
+
 // Whether one of the first k rows is of a row's frame.
 fn frame_before(words: &[u32], at: RowPlace, k: usize) -> bool
     requires { ⌜ Within (now words) (at .0) × (k ≤ at .0) ⌝ }
     ensures { λ r. ⌜ r ≡ someBelow k (same (frameAt (rowsOf (now (words .entry)))) (at .0)) ⌝ }
 {
-    let mut i = 0;
-    while i < k {
-        if rows::same_frame(words, at, RowPlace(i)) {
-            return true;
-        }
-        i += 1;
+    match rows::latest_of(words, RowPlace(k), rows::frame(words, at)) {
+        Found::At(_) => true,
+        Found::Nothing => false,
     }
-    false
 }
 
 // Whether a row stays, where the first k rows are those kept so far: it is the first of its frame among them, and its parent is one of them.
@@ -196,7 +205,7 @@ fn go_from(words: &mut [u32], from: DocNo) -> DocNo
 {
     let n = rows::row_count(words);
     let t = rows::count_steps(words);
-    let start = first_upcoming(words, t.position);
+    let start = removal_start(words, t.position, t.steps);
     let d = rows::next_document(words);
     let next = rows::next_frame_number(words);
     let k = close_gaps(words, start, n);

@@ -1,16 +1,19 @@
 -- Scans downwards for the latest row that passes. Assumes nothing.
-use Prim.Native.Nat.{ℕ, zero, suc, _-_, _≤_, _<_}
+use Prim.Native.Nat.{ℕ, zero, suc, _-_, _*_, _/_, _≤_, _<_}
 use mathlib.Core.Bool.{Bool, true, false, So}
-use mathlib.Core.Path.{_≡_, refl, sym, subst, _∙_}
+use mathlib.Core.List.{List}
+use mathlib.Core.Path.{_≡_, refl, sym, ap, subst, _∙_}
 use native.Mathlib.Nat.{not-suc-le-zero}
 use native.Mathlib.Omega.{arith}
 use borrow.Author.Needs.{needs}
 use borrow.Author.Tests.{not-true, not-false, eqb-true}
 use Rattle.rules.specs.Below.{someBelow, latest}
+use Rattle.rules.specs.Rows.{Row, frameAt, inFrame}
 use Rattle.rules.specs.Steps.{same, step}
 use Rattle.laws.proofs.Tests.{test, off, some-in, some-out, latest-out}
 use Rattle.rows.specs.Found.{foundBelow}
 use Rattle.base.specs.declared.RowPlace.{RowPlace}
+use Rattle.rows.specs.Held.{RowWord}
 use Rattle.rows.specs.Tally.{Under}
 use Rattle.rows.specs.declared.Found.{Found}
 use Rattle.rows.specs.declared.Found.the-variants.{At, Nothing}
@@ -40,6 +43,16 @@ module _ (p : ℕ → Bool) where
   found-end n zero h l = sym h
   found-end n (suc i) h l = absurd (not-suc-le-zero l)
 
+  -- The same by the word where a row's frame stands, which is 4 i + 4 for row i; m is that of the first row past the scanned ones.
+  pub word-here : (n m k : ℕ) (b : Bool) → m ≡ 4 * n → foundBelow p (m / 4) ≡ foundBelow p (k / 4) → RowWord k → b ≡ p (k / 4 - 1) → b ≡ true → At (record { 0 = k / 4 - 1 }) ≡ foundBelow p n
+  word-here n m k b e h w f t = let d : m / 4 ≡ n = omega arith in found-here (m / 4) (k / 4) b h (omega arith) f t ∙ ap (foundBelow p) d
+
+  pub word-on : (m k : ℕ) (b : Bool) → foundBelow p (m / 4) ≡ foundBelow p (k / 4) → RowWord k → b ≡ p (k / 4 - 1) → b ≡ false → foundBelow p (m / 4) ≡ foundBelow p ((k - 4) / 4)
+  word-on m k b h w f t = let d : k / 4 - 1 ≡ (k - 4) / 4 = omega arith in found-on (m / 4) (k / 4) b h (omega arith) f t ∙ ap (foundBelow p) d
+
+  pub word-end : (n m k : ℕ) → m ≡ 4 * n → foundBelow p (m / 4) ≡ foundBelow p (k / 4) → k ≤ 0 → Nothing ≡ foundBelow p n
+  word-end n m k e h l = let d : m / 4 ≡ n = omega arith in found-end (m / 4) (k / 4) h (omega arith) ∙ ap (foundBelow p) d
+
   -- What an answer says.
   pub found-at : (n : ℕ) (q : RowPlace) → foundBelow p n ≡ At q → So (someBelow n p) × (latest p n ≡ q .0)
   unfolding foundBelow
@@ -54,9 +67,19 @@ module _ (p : ℕ → Bool) where
   found-nothing n e =
       test (someBelow n p) (λ t. let f : At (record { 0 = latest p n }) ≡ Nothing = rw t at e in absurd (let z : _≡_ {A = ℕ} 0 1 = cc in omega arith)) (λ t. t)
 
-pub ruleset scans = (needs, not-true, not-false, found-here, found-on, found-end)
+  pub some-found : (n : ℕ) (r : Found) (q : RowPlace) → r ≡ foundBelow p n → r ≡ At q → true ≡ someBelow n p
+  some-found n r q e f = sym (found-at n q (sym e ∙ f) .0)
+
+  pub none-found : (n : ℕ) (r : Found) → r ≡ foundBelow p n → r ≡ Nothing → false ≡ someBelow n p
+  none-found n r e f = sym (found-nothing n (sym e ∙ f))
+
+pub ruleset scans = (needs, not-true, not-false, found-here, found-on, found-end, word-here, word-on, word-end)
 
 -- THE ROW BEFORE IN THE FRAME
+
+-- The latest row of a row's own frame.
+pub found-own : (rows : List Row) (i n f : ℕ) (r : Found) → f ≡ frameAt rows i → r ≡ foundBelow (inFrame rows f) n → r ≡ foundBelow (same (frameAt rows) i) n
+found-own rows i n f r e h = h ∙ ap (λ f. foundBelow (inFrame rows f) n) e
 
 module _ (fr : ℕ → ℕ) (i : ℕ) where
   -- A frame number above all before it is a new one.
@@ -67,8 +90,8 @@ module _ (fr : ℕ → ℕ) (i : ℕ) where
 
   pub step-found : (r : Found) (q : RowPlace) → r ≡ foundBelow (same fr i) i → r ≡ At q → true ≡ step fr i
   unfolding step
-  step-found r q e f = sym (found-at (same fr i) i q (sym e ∙ f) .0)
+  step-found r q e f = some-found (same fr i) i r q e f
 
   pub first-found : (r : Found) → r ≡ foundBelow (same fr i) i → r ≡ Nothing → false ≡ step fr i
   unfolding step
-  first-found r e f = sym (found-nothing (same fr i) i (sym e ∙ f))
+  first-found r e f = none-found (same fr i) i r e f

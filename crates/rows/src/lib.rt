@@ -3,13 +3,13 @@ use base::DocNo;
 use base::FrameNo;
 use base::RowPlace;
 ghost use mathlib.Core.Path.{_≡_};
-ghost use Prim.Native.Nat.{_+_, _<_, max};
-ghost use mathlib.Core.Bool.{cond};
+ghost use Prim.Native.Nat.{_+_, _-_, _/_, _<_, max};
+ghost use mathlib.Core.Bool.{So, cond};
 ghost use lib.ListN.{length};
-ghost use Rattle.rules.specs.Rows.{docAt, frameAt, parentAt, shownAt, isShown, isDoc};
+ghost use Rattle.rules.specs.Rows.{docAt, frameAt, parentAt, shownAt, isShown, isDoc, inFrame};
 ghost use Rattle.rules.specs.Steps.{same, isStep};
 ghost use Rattle.rules.specs.Words.{capacity, tableOf, rowsOf};
-ghost use Rattle.rows.specs.Held.{Before, Within};
+ghost use Rattle.rows.specs.Held.{Before, Within, RowWord};
 ghost use Rattle.rows.specs.Found.{foundBelow};
 ghost use Rattle.rows.specs.Tally.{Under, tallyOf, lowerOf, frameFrom};
 
@@ -108,20 +108,12 @@ pub fn is_shown(words: &[u32], at: RowPlace) -> bool
     shown(words, at) == 1
 }
 
-// Whether two rows are of one frame.
-pub fn same_frame(words: &[u32], at: RowPlace, other: RowPlace) -> bool
-    requires { ⌜ Within (now words) (at .0) × Within (now words) (other .0) ⌝ }
-    ensures { λ r. ⌜ r ≡ same (frameAt (rowsOf (now (words .entry)))) (at .0) (other .0) ⌝ }
+// Whether the row whose frame stands at word k holds a document.
+fn is_document(words: &[u32], k: usize, d: DocNo) -> bool
+    requires { ⌜ Within (now words) (k / 4 - 1) × RowWord k ⌝ }
+    ensures { λ r. ⌜ r ≡ isDoc (rowsOf (now (words .entry))) (d .0) (k / 4 - 1) ⌝ }
 {
-    frame(words, other).0 == frame(words, at).0
-}
-
-// Whether a row holds a document.
-fn is_document(words: &[u32], at: RowPlace, d: DocNo) -> bool
-    requires { ⌜ Within (now words) (at .0) ⌝ }
-    ensures { λ r. ⌜ r ≡ isDoc (rowsOf (now (words .entry))) (d .0) (at .0) ⌝ }
-{
-    document(words, at).0 == d.0
+    words[k - 1] == d.0
 }
 
 // The latest row before a place that holds a document.
@@ -129,27 +121,35 @@ pub fn find_below(words: &[u32], at: RowPlace, d: DocNo) -> Found
     requires { ⌜ Before (now words) (at .0) ⌝ }
     ensures { λ r. ⌜ r ≡ foundBelow (isDoc (rowsOf (now (words .entry))) (d .0)) (at .0) ⌝ }
 {
-    let mut i = at.0;
-    while 0 < i {
-        i -= 1;
-        if is_document(words, RowPlace(i), d) {
-            return Found::At(RowPlace(i));
+    let mut k = 4 * at.0;
+    while 0 < k {
+        if is_document(words, k, d) {
+            return Found::At(RowPlace(k / 4 - 1));
         }
+        k -= 4;
     }
     Found::Nothing
 }
 
-// The row before a row in its frame.
-pub fn previous(words: &[u32], at: RowPlace) -> Found
-    requires { ⌜ Within (now words) (at .0) ⌝ }
-    ensures { λ r. ⌜ r ≡ foundBelow (same (frameAt (rowsOf (now (words .entry)))) (at .0)) (at .0) ⌝ }
+// Whether word k is the frame of a row and has a number.
+fn is_frame(words: &[u32], k: usize, f: FrameNo) -> bool
+    requires { ⌜ Within (now words) (k / 4 - 1) × RowWord k ⌝ }
+    ensures { λ r. ⌜ r ≡ inFrame (rowsOf (now (words .entry))) (f .0) (k / 4 - 1) ⌝ }
 {
-    let mut i = at.0;
-    while 0 < i {
-        i -= 1;
-        if same_frame(words, at, RowPlace(i)) {
-            return Found::At(RowPlace(i));
+    words[k] == f.0
+}
+
+// The latest row before a place that is of a frame.
+pub fn latest_of(words: &[u32], at: RowPlace, f: FrameNo) -> Found
+    requires { ⌜ Before (now words) (at .0) ⌝ }
+    ensures { λ r. ⌜ r ≡ foundBelow (inFrame (rowsOf (now (words .entry))) (f .0)) (at .0) ⌝ }
+{
+    let mut k = 4 * at.0;
+    while 0 < k {
+        if is_frame(words, k, f) {
+            return Found::At(RowPlace(k / 4 - 1));
         }
+        k -= 4;
     }
     Found::Nothing
 }
@@ -159,10 +159,11 @@ pub fn previous_under(words: &[u32], at: RowPlace, high: FrameNo) -> Found
     requires { ⌜ Within (now words) (at .0) × Under (frameAt (rowsOf (now words))) (at .0) (high .0) ⌝ }
     ensures { λ r. ⌜ r ≡ foundBelow (same (frameAt (rowsOf (now (words .entry)))) (at .0)) (at .0) ⌝ }
 {
-    if high.0 < frame(words, at).0 {
+    let f = frame(words, at);
+    if high.0 < f.0 {
         return Found::Nothing;
     }
-    previous(words, at)
+    latest_of(words, at, f)
 }
 
 // The higher of two frame numbers.
@@ -197,18 +198,34 @@ fn either(first: bool, a: usize, b: usize) -> usize
     if first { a } else { b }
 }
 
+// The tally with a step more.
+fn tally_step(words: &[u32], at: RowPlace, t: Tally) -> Tally
+    requires { ⌜ Within (now words) (at .0) × (t ≡ tallyOf (rowsOf (now words)) (at .0)) × So (isStep (rowsOf (now words)) (at .0)) ⌝ }
+    ensures { λ r. ⌜ r ≡ tallyOf (rowsOf (now (words .entry))) (at .0 + 1) ⌝ }
+{
+    let steps = t.steps + 1;
+    let position = either(is_shown(words, at), steps, t.position);
+    let high = t.high;
+    Tally {
+        steps,
+        position,
+        high,
+    }
+}
+
 // The tally with one row more.
 fn tally_row(words: &[u32], at: RowPlace, t: Tally) -> Tally
     requires { ⌜ Within (now words) (at .0) × (t ≡ tallyOf (rowsOf (now words)) (at .0)) ⌝ }
     ensures { λ r. ⌜ r ≡ tallyOf (rowsOf (now (words .entry))) (at .0 + 1) ⌝ }
 {
-    let step = is_step(words, at, t.high);
-    let steps = t.steps + step as usize;
-    let position = either(step & is_shown(words, at), steps, t.position);
+    if is_step(words, at, t.high) {
+        return tally_step(words, at, t);
+    }
+    let high = higher(t.high, frame(words, at));
     Tally {
-        steps,
-        position,
-        high: higher(t.high, frame(words, at)),
+        steps: t.steps,
+        position: t.position,
+        high,
     }
 }
 

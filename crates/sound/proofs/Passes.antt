@@ -1,6 +1,6 @@
 -- What the pass of the test tells, in the code's shape. Assumes nothing.
 use Prim.Native.Nat.{ℕ, zero, _+_, _-_, _*_, _≤_, _<_, max}
-use mathlib.Core.Bool.{Bool, true, false, not, _&&_, _||_, cond}
+use mathlib.Core.Bool.{Bool, true, false, not, _&&_, _||_, So, cond, and-eq-true-iff}
 use mathlib.Core.List.{List}
 use mathlib.Core.Path.{_≡_, refl, sym, ap, subst, _∙_}
 use native.Mathlib.Numerals.{add-one}
@@ -8,7 +8,7 @@ use native.Mathlib.Omega.{arith}
 use mir.Val.{boolByte}
 use lib.Dec.{eqb, leb, ltb}
 use lib.ListN.{length, getD}
-use borrow.Author.Tests.{eq-eqb, ne-eqb, lt-ltb, le-ltb}
+use borrow.Author.Tests.{eqb-true, eqb-false, leb-true, eq-eqb, ne-eqb, lt-ltb, le-ltb}
 use Rattle.base.specs.declared.DocNo.{DocNo}
 use Rattle.base.specs.declared.FrameNo.{FrameNo}
 use Rattle.base.specs.declared.RowPlace.{RowPlace}
@@ -22,13 +22,14 @@ use Rattle.laws.proofs.Words.{rows-length}
 use Rattle.rows.specs.Found.{foundBelow}
 use Rattle.rows.specs.declared.Found.{Found}
 use Rattle.rows.specs.declared.Found.the-variants.{At, Nothing}
-use Rattle.laws.proofs.Tests.{test, clash, off, or-right, some-in, some-out, all-in, all-out}
-use Rattle.laws.proofs.Loops.{count-more, count-within}
-use Rattle.rows.proofs.Scans.{found-at, found-nothing}
+use Rattle.laws.proofs.Tests.{test, clash, off, same-tests, or-false, some-in, some-out, all-in, all-out, count-yes, count-no}
+use Rattle.rows.specs.Held.{Within}
+use Rattle.rows.specs.Tally.{Under}
+use Rattle.laws.proofs.Loops.{count-more}
+use Rattle.rows.proofs.Scans.{found-at, found-lower, found-nothing}
 use Rattle.rows.proofs.Tallies.{under-more}
-use Rattle.sound.specs.Quick.{ordered, linked, comes, calm, rowFine, evenly}
-use Rattle.sound.specs.Pass.{lookOf, Passed}
-use Rattle.sound.specs.declared.Look.{Look}
+use Rattle.sound.specs.Quick.{bounded, linked, comes, calm, plain, joined, rowFine, evenly}
+use Rattle.sound.specs.Pass.{Passed, Onward, StepAfter}
 use Rattle.sound.specs.declared.Pass.{Pass}
 
 module _ (rows : List Row) (i : ℕ) where
@@ -43,25 +44,22 @@ module _ (rows : List Row) (i : ℕ) where
   parent-lost up r e f h = sym (subst (λ d. someBelow i (isDoc rows d) ≡ false) e (found-nothing (isDoc rows up) i (sym f ∙ h)))
 
   -- A step and a frame's first row.
-  pub look-step : (r : Found) (j : RowPlace) (a b : ℕ) (s : Bool) → r ≡ foundBelow (same (frameAt rows) i) i → r ≡ At j →
-      a ≡ parentAt rows i → b ≡ parentAt rows (j .0) → s ≡ isShown rows (j .0) → record { step = true; linked = eqb a b; comes = s } ≡ lookOf rows i
-  unfolding step linked comes rowBefore
-  look-step r j a b s e f g h k =
-      let q = found-at (same (frameAt rows) i) i j (sym e ∙ f) in
-      rw (q .0, q .1, g, h, k) refl
+  pub step-after : (r : Found) (j : RowPlace) → r ≡ foundBelow (same (frameAt rows) i) i → r ≡ At j → StepAfter rows i (j .0)
+  unfolding step rowBefore
+  step-after r j e f = let q = found-at (same (frameAt rows) i) i j (sym e ∙ f) in record { step = q .0; prior = sym (q .1); lower = found-lower (same (frameAt rows) i) i j (sym e ∙ f) }
 
-  pub look-first : (r : Found) (h : Bool) → r ≡ foundBelow (same (frameAt rows) i) i → r ≡ Nothing → 0 < i → h ≡ someBelow i (isDoc rows (parentAt rows i)) →
-      record { step = false; linked = h; comes = false } ≡ lookOf rows i
-  unfolding step linked comes
-  look-first r h e f l g = rw (found-nothing (same (frameAt rows) i) i (sym e ∙ f), ne-eqb i 0 (λ z. omega arith), g) refl
+  pub bounded-is : (top f s : ℕ) → f ≡ frameAt rows i → s ≡ shownAt rows i → (ltb f top && leb s 1) ≡ bounded rows top i
+  bounded-is top f s e g = rw (e, g) refl
 
-  pub rises-is : (a b : ℕ) → 0 < i → a ≡ docAt rows (i - 1) → b ≡ docAt rows i → ltb a b ≡ ordered rows i
-  rises-is a b l e f = rw (ne-eqb i 0 (λ z. omega arith), e, f) refl
+  pub plain-is : (top a b : ℕ) (c : Bool) → 0 < i → a ≡ docAt rows (i - 1) → b ≡ docAt rows i → c ≡ bounded rows top i → (ltb a b && c) ≡ plain rows top i
+  unfolding plain
+  plain-is top a b c l e f g = rw (ne-eqb i 0 (λ z. omega arith), e, f, g) refl
 
-  pub fine-is : (top f s : ℕ) (r late : Bool) (k : Look) → r ≡ ordered rows i → f ≡ frameAt rows i → s ≡ shownAt rows i → k ≡ lookOf rows i → late ≡ someBelow (i + 1) (comes rows) →
-      (r && ltb f top && leb s 1 && k .linked && not (k .step && eqb s 1 && late)) ≡ rowFine rows top i
-  unfolding rowFine calm
-  fine-is top f s r late k a b c d e = rw (a, b, c, d, e, add-one i) refl
+  bit-is : shownAt rows i ≤ 1 → shownAt rows i ≡ boolByte (isShown rows i)
+  bit-is l = test (isShown rows i) (λ t. rw t (eqb-true (shownAt rows i) 1 t)) (λ f. let z : shownAt rows i ≡ 0 = omega (arith, eqb-false (shownAt rows i) 1 f) in rw f z)
+
+pub prior-within : (words : List ℕ) (i j : ℕ) → Within words i → StepAfter (rowsOf words) i j → Within words j
+prior-within words i j w s = let l = s .lower in let b = w .below in record { held = w .held; below = omega arith }
 
 -- THE PASS, ROW BY ROW
 
@@ -73,77 +71,127 @@ all-and : (p : ℕ → Bool) (i : ℕ) (a b : Bool) → a ≡ allBelow i p → b
 unfolding allBelow
 all-and p i a b e f = rw (e, f, add-one i) refl
 
+under-step : (fr : ℕ → ℕ) (i h : ℕ) → Under fr i h → So (step fr i) → Under fr (i + 1) h
+unfolding step
+under-step fr i h u s = let k = some-out (same fr i) i s in under-more fr i h h u (omega (arith, u (k .0) (k .1), eqb-true (fr (k .0)) (fr i) (k .2)))
+
 some-grows : (p : ℕ → Bool) (i : ℕ) → someBelow i p ≡ true → someBelow (i + 1) p ≡ true
 some-grows p i h = let k = some-out p i h in some-in p (i + 1) (omega arith) (k .2)
 
-module _ (rows : List Row) (top : ℕ) where
-  pub passed-start : (s u : ℕ) (high : FrameNo) (known : DocNo) → s ≡ shownAt rows 0 → u ≡ parentAt rows 0 → high .0 ≡ frameAt rows 0 → known .0 ≡ docAt rows 0 →
-      Passed rows top 1 (record { fine = ltb (high .0) top && leb s 1 && eqb u none; late = false; shown = boolByte (eqb s 1); frames = 1; high = high; known = known })
-  unfolding someBelow allBelow count rowFine linked comes calm step
-  passed-start s u high known a b c d =
+module _ (rows : List Row) where
+  and-true : (b : Bool) → b ≡ (b && true)
+  and-true true = refl
+  and-true false = refl
+
+  pub passed-start : (s u : ℕ) (high : FrameNo) (known : DocNo) → s ≡ shownAt rows 0 → shownAt rows 0 ≤ 1 → u ≡ parentAt rows 0 → high .0 ≡ frameAt rows 0 → known .0 ≡ docAt rows 0 →
+      Passed rows 1 (record { fine = eqb u none; late = false; shown = s; frames = 1; high = high; known = known })
+  unfolding someBelow allBelow count joined linked comes calm step
+  passed-start s u high known a l b c d =
       record {
-        fine-is = rw (a, b, c) (all-true (ltb (frameAt rows 0) top && leb (shownAt rows 0) 1 && eqb (parentAt rows 0) none));
+        fine-is = rw b (and-true (eqb (parentAt rows 0) none));
         late-is = refl;
-        shown-are = rw a (test (isShown rows 0) (λ t. rw t refl) (λ t. rw t refl));
+        shown-are = a ∙ bit-is rows 0 l ∙ test (isShown rows 0) (λ t. rw t refl) (λ t. rw t refl);
         frames-are = refl;
-        few-shown = test (eqb s 1) (λ t. rw t (omega arith)) (λ t. rw t (omega arith));
+        few-shown = omega arith;
         few-frames = omega arith;
         under = λ k l. let e : k ≡ 0 = omega arith in rw e (omega arith);
         known-is = eq-eqb (docAt rows 0) (known .0) (sym d);
       }
-    where
-      all-true : (b : Bool) → b ≡ (b && true)
-      all-true true = refl
-      all-true false = refl
 
-  -- The parent known after a row stands among the rows up to it.
-  known-more : (i known : ℕ) (up : DocNo) → 0 < i → someBelow i (isDoc rows known) ≡ true → up .0 ≡ parentAt rows i →
-      someBelow (i + 1) (isDoc rows (cond (linked rows i && not (isStep rows i)) (up .0) known)) ≡ true
-  unfolding linked
-  known-more i known up l h e =
-      test (isStep rows i)
-      (λ t. rw t (keep (eqb (parentAt rows i) (parentAt rows (rowBefore rows i)))))
-      (λ f. rw (f, ne-eqb i 0 (λ z. omega arith)) (test (someBelow i (isDoc rows (parentAt rows i)))
-      (λ t. rw t (some-grows (isDoc rows (up .0)) i (rw e t)))
-      (λ t. rw t (some-grows (isDoc rows known) i h))))
-    where
-      keep : (b : Bool) → someBelow (i + 1) (isDoc rows (cond (b && false) (up .0) known)) ≡ true
-      keep true = some-grows (isDoc rows known) i h
-      keep false = some-grows (isDoc rows known) i h
+  module _ (i : ℕ) (p : Pass) (o : Onward rows i p) where
+    fine-more : (b : Bool) → b ≡ joined rows i → b ≡ allBelow (i + 1) (joined rows)
+    fine-more b e = all-and (joined rows) i true b (sym (o .fine) ∙ o .passed .fine-is) e
 
-  pub passed-more : (i : ℕ) (p : Pass) (k : Look) (fine shown : Bool) (high : FrameNo) (up known : DocNo) → 0 < i → Passed rows top i p → k ≡ lookOf rows i →
-      fine ≡ rowFine rows top i → shown ≡ isShown rows i → high .0 ≡ max (p .high .0) (frameAt rows i) → up .0 ≡ parentAt rows i → known .0 ≡ cond (k .linked && not (k .step)) (up .0) (p .known .0) →
-      Passed rows top (i + 1) (record {
-        fine = p .fine && fine;
-        late = p .late || k .comes;
-        shown = p .shown + boolByte shown;
-        frames = p .frames + boolByte (not (k .step));
-        high = high;
-        known = known;
-      })
-  passed-more i p k fine shown high up known l s e f g a u h =
-      record {
-        fine-is = all-and (rowFine rows top) i (p .fine) fine (s .fine-is) f;
-        late-is = some-or (comes rows) i (p .late) (k .comes) (s .late-is) (ap (λ k. k .comes) e);
-        shown-are = count-more (isShown rows) i (p .shown) shown (s .shown-are) g;
-        frames-are = count-more (λ j. not (isStep rows j)) i (p .frames) (not (k .step)) (s .frames-are) (ap (λ k. not (k .step)) e);
-        few-shown = count-within i (p .shown) shown (s .few-shown);
-        few-frames = count-within i (p .frames) (not (k .step)) (s .few-frames);
-        under = under-more (frameAt rows) i (p .high .0) (high .0) (s .under) a;
-        known-is = rw (h, e) (known-more i (p .known .0) up l (s .known-is) u);
-      }
+    shown-more : (s : ℕ) → s ≡ shownAt rows i → p .shown + s ≡ count (isShown rows) (i + 1)
+    shown-more s e = rw (e, bit-is rows i (o .bit)) (count-more (isShown rows) i (p .shown) (isShown rows i) (o .passed .shown-are) refl)
+
+    pub passed-step : (j s a b : ℕ) (v : Bool) → StepAfter rows i j → s ≡ shownAt rows i → a ≡ parentAt rows i → b ≡ parentAt rows j → v ≡ isShown rows j →
+        Passed rows (i + 1) (record { fine = eqb a b && not (eqb s 1 && (p .late || v)); late = p .late || v; shown = p .shown + s; frames = p .frames; high = p .high; known = p .known })
+    unfolding joined linked calm comes
+    passed-step j s a b v w e f g h =
+        let r = o .passed in
+        let y = w .step in
+        let l = r .few-shown in
+        let m = r .few-frames in
+        let z = o .bit in
+        let late : (p .late || v) ≡ someBelow (i + 1) (comes rows) = some-or (comes rows) i (p .late) v (r .late-is) (rw (y, ← w .prior) h) in
+        record {
+          fine-is = fine-more _ (rw (y, ← w .prior, e, f, g, late, add-one i) refl);
+          late-is = late;
+          shown-are = shown-more s e;
+          frames-are = r .frames-are ∙ sym (ap (count (λ k. not (isStep rows k))) (add-one i) ∙ count-no (λ k. not (isStep rows k)) i (rw y refl));
+          few-shown = omega arith;
+          few-frames = omega arith;
+          under = under-step (frameAt rows) i (p .high .0) (r .under) y;
+          known-is = some-grows (isDoc rows (p .known .0)) i (r .known-is);
+        }
+
+    pub passed-first : (s : ℕ) (v : Bool) (high : FrameNo) (up known : DocNo) → 0 < i → isStep rows i ≡ false → s ≡ shownAt rows i → v ≡ someBelow i (isDoc rows (parentAt rows i)) →
+        high .0 ≡ max (p .high .0) (frameAt rows i) → up .0 ≡ parentAt rows i → known .0 ≡ cond v (up .0) (p .known .0) →
+        Passed rows (i + 1) (record { fine = v; late = p .late; shown = p .shown + s; frames = p .frames + 1; high = high; known = known })
+    unfolding joined linked calm comes
+    passed-first s v high up known l n e f g h k =
+        let r = o .passed in
+        let a = r .few-shown in
+        let b = r .few-frames in
+        let z = o .bit in
+        record {
+          fine-is = fine-more v (rw (n, ne-eqb i 0 (λ z. omega arith), ← f) (and-true v));
+          late-is = sym (or-false (p .late)) ∙ some-or (comes rows) i (p .late) false (r .late-is) (rw n refl);
+          shown-are = shown-more s e;
+          frames-are = rw (add-one i) (omega (arith, r .frames-are, count-yes (λ k. not (isStep rows k)) i (rw n refl)));
+          few-shown = omega arith;
+          few-frames = omega arith;
+          under = under-more (frameAt rows) i (p .high .0) (high .0) (r .under) g;
+          known-is = test v
+              (λ t. some-grows (isDoc rows (known .0)) i (rw (k, t, h, ← f) t))
+              (λ t. some-grows (isDoc rows (known .0)) i (rw (k, t) (r .known-is)));
+        }
 
   -- THE VERDICT
-  pub pass-stops : (i n : ℕ) (p : Pass) → Passed rows top i p → i < n → n ≡ length rows → p .fine ≡ false → false ≡ (allBelow (length rows) (rowFine rows top) && evenly rows)
-  pass-stops i n p s l e f =
-      let g : allBelow (length rows) (rowFine rows top) ≡ false =
-      off (allBelow (length rows) (rowFine rows top)) (λ h. clash (s .fine-is ∙ all-in (rowFine rows top) i (λ k m. all-out (rowFine rows top) (length rows) h k (omega arith))) f) in
-      rw g refl
+  module _ (top : ℕ) where
+    fine-all : allBelow (length rows) (plain rows top) ≡ true → allBelow (length rows) (joined rows) ≡ allBelow (length rows) (rowFine rows top)
+    unfolding rowFine
+    fine-all h =
+        same-tests
+        (λ t. all-in (rowFine rows top) (length rows) (λ k l. simp and-eq-true-iff (all-out (plain rows top) (length rows) h k l, all-out (joined rows) (length rows) t k l)))
+        (λ t. all-in (joined rows) (length rows) (λ k l. (simp and-eq-true-iff at (all-out (rowFine rows top) (length rows) t k l)) .1))
 
-  pub pass-ends : (i n : ℕ) (p : Pass) → Passed rows top i p → i ≤ n → n ≤ i → n ≡ length rows → (p .fine && eqb (p .shown) (p .frames)) ≡ (allBelow (length rows) (rowFine rows top) && evenly rows)
-  pass-ends i n p s a b e =
-      let q : i ≡ length rows = omega arith in
-      rw (s .fine-is, s .shown-are, s .frames-are, q) refl
+    -- A row that fails ends the pass.
+    not-all : (k : ℕ) → k < length rows → rowFine rows top k ≡ false → false ≡ (allBelow (length rows) (rowFine rows top) && evenly rows)
+    not-all k l f = rw (off (allBelow (length rows) (rowFine rows top)) (λ h. clash (all-out (rowFine rows top) (length rows) h k l) f)) refl
+
+    pub first-stops : 0 < length rows → (b : Bool) → b ≡ bounded rows top 0 → b ≡ false → false ≡ (allBelow (length rows) (rowFine rows top) && evenly rows)
+    unfolding rowFine plain
+    first-stops l b e f = not-all 0 l (rw (sym e ∙ f) refl)
+
+    pub first-plain : (b : Bool) → b ≡ bounded rows top 0 → b ≡ true → (allBelow 1 (plain rows top) ≡ true) × (shownAt rows 0 ≤ 1)
+    unfolding plain allBelow
+    first-plain b e t = let u = simp and-eq-true-iff at (sym e ∙ t) in (rw (sym e ∙ t) refl, leb-true _ _ (u .1))
+
+    pub pass-stops : (i n : ℕ) (p : Pass) (b : Bool) → Passed rows i p → i < n → n ≡ length rows → b ≡ plain rows top i → (p .fine && b) ≡ false →
+        false ≡ (allBelow (length rows) (rowFine rows top) && evenly rows)
+    unfolding rowFine
+    pass-stops i n p b s l e g f =
+        test (plain rows top i)
+        (λ t.
+        let z : allBelow i (joined rows) ≡ false = rw (← s .fine-is) (and-true (p .fine) ∙ rw (g, t) at f) in
+        rw (off (allBelow (length rows) (rowFine rows top)) (λ h. clash (all-in (joined rows) i (λ k m. (simp and-eq-true-iff at (all-out (rowFine rows top) (length rows) h k (omega arith))) .1)) z)) refl)
+        (λ t. not-all i (omega arith) (rw t refl))
+
+    pub pass-goes : (i : ℕ) (p : Pass) (b : Bool) → Passed rows i p → allBelow i (plain rows top) ≡ true → b ≡ plain rows top i → (p .fine && b) ≡ true →
+        Onward rows i p × (allBelow (i + 1) (plain rows top) ≡ true)
+    unfolding plain
+    pass-goes i p b s a g f =
+        let u = simp and-eq-true-iff at f in
+        let v = simp and-eq-true-iff at (sym g ∙ u .1) in
+        (record { passed = s; fine = u .0; bit = leb-true _ _ (v .1 .1) }, sym (all-and (plain rows top) i true true (sym a) (sym (sym g ∙ u .1))))
+
+    pub pass-ends : (i n : ℕ) (p : Pass) → Passed rows i p → allBelow i (plain rows top) ≡ true → i ≤ n → n ≤ i → n ≡ length rows →
+        (p .fine && eqb (p .shown) (p .frames)) ≡ (allBelow (length rows) (rowFine rows top) && evenly rows)
+    pass-ends i n p s h a b e =
+        let q : i ≡ length rows = omega arith in
+        rw (s .fine-is, s .shown-are, s .frames-are, q, fine-all (rw q at h)) refl
 
 -- THE WORDS PAST THE ROWS
 
@@ -151,12 +199,8 @@ module _ (words : List ℕ) where
   pub rest-starts : (n : ℕ) → n ≡ length (rowsOf words) → allBelow (3 + 4 * n) (zero? words) ≡ true
   rest-starts n e = all-in (zero? words) (3 + 4 * n) (λ k l. rw (lt-ltb k (3 + 4 * getD words 0 0) (omega (arith, rows-length words))) refl)
 
-  pub rest-more : (k : ℕ) → allBelow k (zero? words) ≡ true → getD words k 0 ≡ 0 → allBelow (k + 1) (zero? words) ≡ true
-  rest-more k h e = sym (all-and (zero? words) k true true (sym h) (sym (or-right (ltb k (3 + 4 * getD words 0 0)) (eq-eqb _ _ e))))
+  pub rest-more : (k w : ℕ) (z : Bool) → z ≡ allBelow k (zero? words) → 3 + 4 * length (rowsOf words) ≤ k → w ≡ getD words k 0 → (z && eqb w 0) ≡ allBelow (k + 1) (zero? words)
+  rest-more k w z h l e = all-and (zero? words) k z (eqb w 0) h (rw (le-ltb k (3 + 4 * getD words 0 0) (omega (arith, rows-length words)), e) refl)
 
-  pub rest-stops : (k : ℕ) → 3 + 4 * length (rowsOf words) ≤ k → k < 3 + 4 * capacity words → (getD words k 0 ≡ 0 → ⊥) → false ≡ s8? words
-  rest-stops k a b ne =
-      sym (off (s8? words) (λ h. clash (all-out (zero? words) (3 + 4 * capacity words) h k b) (rw (le-ltb k (3 + 4 * getD words 0 0) (omega (arith, rows-length words)), ne-eqb _ _ ne) refl)))
-
-  pub rest-ends : (k : ℕ) → allBelow k (zero? words) ≡ true → k ≡ 3 + 4 * capacity words → true ≡ s8? words
-  rest-ends k h e = sym (subst (λ k. allBelow k (zero? words) ≡ true) e h)
+  pub rest-ends : (k : ℕ) (z : Bool) → z ≡ allBelow k (zero? words) → k ≡ 3 + 4 * capacity words → z ≡ s8? words
+  rest-ends k z h e = subst (λ k. z ≡ allBelow k (zero? words)) e h

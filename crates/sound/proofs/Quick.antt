@@ -20,7 +20,7 @@ use Rattle.laws.proofs.Frames.{step-in, first, reach-in, reach-out}
 use Rattle.laws.proofs.Central.{only-shown}
 use Rattle.laws.proofs.Tree.{rising-all}
 use Rattle.laws.proofs.Reflect.{Ref, ref-lt, ref-le, ref-eq, ref-so, ref-map, ref-and, ref-all, sound-table-is}
-use Rattle.sound.specs.Quick.{ordered, linked, comes, calm, rowFine, quick?}
+use Rattle.sound.specs.Quick.{ordered, linked, comes, calm, plain, joined, rowFine, quick?}
 
 -- HOW MANY
 
@@ -136,12 +136,12 @@ module _ (rows : List Row) where
   )
 
   fine-is : (nextFrame i : ℕ) → Ref (rowFine rows nextFrame i) (Fine rows nextFrame i)
-  unfolding rowFine
+  unfolding rowFine plain joined
   fine-is nextFrame i =
       ref-map
-      (λ h. record { order = h .0 .0 .0 .0; framed = h .0 .0 .0 .1; bit = h .0 .0 .1; link = h .0 .1; quiet = h .1 })
-      (λ f. ((((f .order, f .framed), f .bit), f .link), f .quiet))
-      (ref-and (ref-and (ref-and (ref-and (ref-so (ordered rows i)) (ref-lt (frameAt rows i) nextFrame)) (ref-le (shownAt rows i) 1)) (ref-so (linked rows i))) (ref-so (calm rows i)))
+      (λ h. record { order = h .0 .0; framed = h .0 .1 .0; bit = h .0 .1 .1; link = h .1 .0; quiet = h .1 .1 })
+      (λ f. ((f .order, (f .framed, f .bit)), (f .link, f .quiet)))
+      (ref-and (ref-and (ref-so (ordered rows i)) (ref-and (ref-lt (frameAt rows i) nextFrame) (ref-le (shownAt rows i) 1))) (ref-and (ref-so (linked rows i)) (ref-so (calm rows i))))
 
   quick-means : (nextDoc nextFrame : ℕ) → Ref (quick? rows nextDoc nextFrame) ((((i : ℕ) → i < length rows → Fine rows nextFrame i) × (docAt rows (length rows - 1) < nextDoc)) × Even rows)
   unfolding quick?

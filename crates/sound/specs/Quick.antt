@@ -27,8 +27,20 @@ comes rows i = isStep rows i && isShown rows (rowBefore rows i)
 unfoldable pub calm : List Row → ℕ → Bool
 calm rows i = not (isStep rows i && isShown rows i && someBelow (suc i) (comes rows))
 
+-- The frame number is below the next one, and the flag is 0 or 1.
+abbrev pub bounded : List Row → ℕ → ℕ → Bool
+bounded rows nextFrame i = ltb (frameAt rows i) nextFrame && leb (shownAt rows i) 1
+
+-- What asks no further back than the row before.
+unfoldable pub plain : List Row → ℕ → ℕ → Bool
+plain rows nextFrame i = ordered rows i && bounded rows nextFrame i
+
+-- What asks the row before in the frame, or the parent.
+unfoldable pub joined : List Row → ℕ → Bool
+joined rows i = linked rows i && calm rows i
+
 unfoldable pub rowFine : List Row → ℕ → ℕ → Bool
-rowFine rows nextFrame i = ordered rows i && ltb (frameAt rows i) nextFrame && leb (shownAt rows i) 1 && linked rows i && calm rows i
+rowFine rows nextFrame i = plain rows nextFrame i && joined rows i
 
 -- As many rows are shown as there are frames.
 abbrev pub evenly : List Row → Bool

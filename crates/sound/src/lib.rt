@@ -10,27 +10,20 @@ use base::RowPlace;
 use rows::Found;
 use rows::NONE;
 ghost use mathlib.Core.Path.{_≡_};
-ghost use mathlib.Core.Bool.{true, _&&_, cond};
+ghost use mathlib.Core.Bool.{true, false, _&&_, cond};
 ghost use Prim.Native.Nat.{_+_, _<_, _≤_};
 ghost use lib.ListN.{length};
 ghost use Rattle.rules.specs.Below.{someBelow, allBelow};
-ghost use Rattle.rules.specs.Rows.{frameAt, parentAt, isDoc};
+ghost use Rattle.rules.specs.Rows.{parentAt, shownAt, isDoc};
+ghost use Rattle.rules.specs.Steps.{isStep};
 ghost use Rattle.rules.specs.Words.{capacity, tableOf, rowsOf};
 ghost use Rattle.rules.specs.Sound.{s8?, sound?};
 ghost use Rattle.rows.specs.Held.{Within};
-ghost use Rattle.rows.specs.Tally.{Under};
-ghost use Rattle.sound.specs.Quick.{ordered, comes, rowFine, evenly, quick?};
-ghost use Rattle.sound.specs.Pass.{lookOf, Passed};
+ghost use Rattle.sound.specs.Quick.{bounded, plain, rowFine, evenly, quick?};
+ghost use Rattle.sound.specs.Pass.{Passed, Onward, StepAfter};
 ghost use Rattle.sound.specs.Check.{checkOf};
 
-// What a row is to the rows before it: a step, joined to the right parent, upcoming.
-pub struct Look {
-    pub step: bool,
-    pub linked: bool,
-    pub comes: bool,
-}
-
-// What a pass knows of the rows behind it: all fine, some upcoming, how many shown, how many frames, a bound on the frame numbers, the parent found last.
+// What a pass knows of the rows behind it: all joined rightly, some upcoming, how many shown, how many frames, a bound on the frame numbers, the parent found last.
 pub struct Pass {
     pub fine: bool,
     pub late: bool,
@@ -55,42 +48,62 @@ fn has_parent(words: &[u32], at: RowPlace, known: DocNo) -> bool
     }
 }
 
-// A look at the row at a place, which is not the first.
-fn look_at(words: &[u32], at: RowPlace, high: FrameNo, known: DocNo) -> Look
-    requires { ⌜ Within (now words) (at .0) × (0 < at .0) × Under (frameAt (rowsOf (now words))) (at .0) (high .0) × (someBelow (at .0) (isDoc (rowsOf (now words)) (known .0)) ≡ true) ⌝ }
-    ensures { λ r. ⌜ r ≡ lookOf (rowsOf (now (words .entry))) (at .0) ⌝ }
+// Whether a row's frame number and flag are within their bounds.
+fn is_bounded(words: &[u32], at: RowPlace, top: FrameNo) -> bool
+    requires { ⌜ Within (now words) (at .0) ⌝ }
+    ensures { λ r. ⌜ r ≡ bounded (rowsOf (now (words .entry))) (top .0) (at .0) ⌝ }
 {
-    match rows::previous_under(words, at, high) {
-        Found::At(prior) => Look {
-            step: true,
-            linked: rows::parent(words, at).0 == rows::parent(words, prior).0,
-            comes: rows::is_shown(words, prior),
-        },
-        Found::Nothing => Look {
-            step: false,
-            linked: has_parent(words, at, known),
-            comes: false,
-        },
+    (rows::frame(words, at).0 < top.0) & (rows::shown(words, at) <= 1)
+}
+
+// Whether a row that is not the first is so, and its document is above that of the row before.
+fn is_plain(words: &[u32], at: RowPlace, top: FrameNo) -> bool
+    requires { ⌜ Within (now words) (at .0) × (0 < at .0) ⌝ }
+    ensures { λ r. ⌜ r ≡ plain (rowsOf (now (words .entry))) (top .0) (at .0) ⌝ }
+{
+    let i = at.0;
+    let rises = rows::document(words, RowPlace(i - 1)).0 < rows::document(words, at).0;
+    rises & is_bounded(words, at, top)
+}
+
+// The pass at the first row.
+fn pass_start(words: &[u32]) -> Pass
+    requires { ⌜ Within (now words) 0 × (shownAt (rowsOf (now words)) 0 ≤ 1) ⌝ }
+    ensures { λ r. ⌜ Passed (rowsOf (now (words .entry))) 1 r ⌝ }
+{
+    let at = RowPlace(0);
+    let shown = rows::shown(words, at) as usize;
+    let high = rows::frame(words, at);
+    let known = rows::document(words, at);
+    let root = rows::parent(words, at).0 == NONE;
+    Pass {
+        fine: root,
+        late: false,
+        shown,
+        frames: 1,
+        high,
+        known,
     }
 }
 
-// Whether documents rise from the row before to this one.
-fn rises(words: &[u32], at: RowPlace) -> bool
-    requires { ⌜ Within (now words) (at .0) × (0 < at .0) ⌝ }
-    ensures { λ r. ⌜ r ≡ ordered (rowsOf (now (words .entry))) (at .0) ⌝ }
+// The pass with a step more, after the row before it in its frame.
+fn pass_step(words: &[u32], at: RowPlace, prior: RowPlace, p: Pass) -> Pass
+    requires { ⌜ Within (now words) (at .0) × Onward (rowsOf (now words)) (at .0) p × StepAfter (rowsOf (now words)) (at .0) (prior .0) ⌝ }
+    ensures { λ r. ⌜ Passed (rowsOf (now (words .entry))) (at .0 + 1) r ⌝ }
 {
-    let i = at.0;
-    rows::document(words, RowPlace(i - 1)).0 < rows::document(words, at).0
-}
-
-// Whether a row keeps the rules, `late` telling whether a step up to it is upcoming.
-fn row_fine(words: &[u32], at: RowPlace, top: FrameNo, look: Look, late: bool) -> bool
-    requires { ⌜ Within (now words) (at .0) × (0 < at .0) × (look ≡ lookOf (rowsOf (now words)) (at .0)) × (late ≡ someBelow (at .0 + 1) (comes (rowsOf (now words)))) ⌝ }
-    ensures { λ r. ⌜ r ≡ rowFine (rowsOf (now (words .entry))) (top .0) (at .0) ⌝ }
-{
+    let late = p.late | rows::is_shown(words, prior);
+    let linked = rows::parent(words, at).0 == rows::parent(words, prior).0;
     let shown = rows::shown(words, at);
-    let framed = rows::frame(words, at).0 < top.0;
-    rises(words, at) & framed & (shown <= 1) & look.linked & !(look.step & (shown == 1) & late)
+    let high = p.high;
+    let known = p.known;
+    Pass {
+        fine: linked & !((shown == 1) & late),
+        late,
+        shown: p.shown + shown as usize,
+        frames: p.frames,
+        high,
+        known,
+    }
 }
 
 // The parent that is known now.
@@ -100,46 +113,32 @@ fn known_now(found: bool, up: DocNo, known: DocNo) -> DocNo
     if found { up } else { known }
 }
 
-// The pass at the first row.
-fn pass_start(words: &[u32], top: FrameNo) -> Pass
-    requires { ⌜ Within (now words) 0 ⌝ }
-    ensures { λ r. ⌜ Passed (rowsOf (now (words .entry))) (top .0) 1 r ⌝ }
+// The pass with the first row of a frame more.
+fn pass_first(words: &[u32], at: RowPlace, p: Pass) -> Pass
+    requires { ⌜ Within (now words) (at .0) × Onward (rowsOf (now words)) (at .0) p × (0 < at .0) × (isStep (rowsOf (now words)) (at .0) ≡ false) ⌝ }
+    ensures { λ r. ⌜ Passed (rowsOf (now (words .entry))) (at .0 + 1) r ⌝ }
 {
-    let at = RowPlace(0);
-    let shown = rows::shown(words, at);
-    let high = rows::frame(words, at);
-    let known = rows::document(words, at);
-    let root = rows::parent(words, at).0 == NONE;
-    let framed = high.0 < top.0;
+    let linked = has_parent(words, at, p.known);
+    let high = rows::higher(p.high, rows::frame(words, at));
+    let known = known_now(linked, rows::parent(words, at), p.known);
     Pass {
-        fine: framed & (shown <= 1) & root,
-        late: false,
-        shown: (shown == 1) as usize,
-        frames: 1,
+        fine: linked,
+        late: p.late,
+        shown: p.shown + rows::shown(words, at) as usize,
+        frames: p.frames + 1,
         high,
         known,
     }
 }
 
 // The pass with one row more.
-fn pass_row(words: &[u32], at: RowPlace, p: Pass, top: FrameNo) -> Pass
-    requires { ⌜ Within (now words) (at .0) × (0 < at .0) × Passed (rowsOf (now words)) (top .0) (at .0) p ⌝ }
-    ensures { λ r. ⌜ Passed (rowsOf (now (words .entry))) (top .0) (at .0 + 1) r ⌝ }
+fn pass_row(words: &[u32], at: RowPlace, p: Pass) -> Pass
+    requires { ⌜ Within (now words) (at .0) × Onward (rowsOf (now words)) (at .0) p × (0 < at .0) ⌝ }
+    ensures { λ r. ⌜ Passed (rowsOf (now (words .entry))) (at .0 + 1) r ⌝ }
 {
-    let look = look_at(words, at, p.high, p.known);
-    let late = p.late | look.comes;
-    let fine = p.fine & row_fine(words, at, top, look, late);
-    let shown = p.shown + rows::is_shown(words, at) as usize;
-    let frames = p.frames + !look.step as usize;
-    let high = rows::higher(p.high, rows::frame(words, at));
-    let known = known_now(look.linked & !look.step, rows::parent(words, at), p.known);
-    Pass {
-        fine,
-        late,
-        shown,
-        frames,
-        high,
-        known,
+    match rows::previous_under(words, at, p.high) {
+        Found::At(prior) => pass_step(words, at, prior, p),
+        Found::Nothing => pass_first(words, at, p),
     }
 }
 
@@ -148,13 +147,16 @@ fn rows_pass(words: &[u32], n: usize, top: FrameNo) -> bool
     requires { ⌜ Within (now words) 0 × (n ≡ length (rowsOf (now words))) ⌝ }
     ensures { λ r. ⌜ r ≡ (allBelow (length (rowsOf (now (words .entry)))) (rowFine (rowsOf (now (words .entry))) (top .0)) && evenly (rowsOf (now (words .entry)))) ⌝ }
 {
-    let mut p = pass_start(words, top);
+    if !is_bounded(words, RowPlace(0), top) {
+        return false;
+    }
+    let mut p = pass_start(words);
     let mut i = 1;
     while i < n {
-        if !p.fine {
+        if !(p.fine & is_plain(words, RowPlace(i), top)) {
             return false;
         }
-        p = pass_row(words, RowPlace(i), p, top);
+        p = pass_row(words, RowPlace(i), p);
         i += 1;
     }
     p.fine & (p.shown == p.frames)
@@ -179,13 +181,12 @@ fn rest_zero(words: &[u32], n: usize, c: usize) -> bool
 {
     let end = 3 + 4 * c;
     let mut k = 3 + 4 * n;
+    let mut zero = true;
     while k < end {
-        if words[k] != 0 {
-            return false;
-        }
+        zero = zero & (words[k] == 0);
         k += 1;
     }
-    true
+    zero
 }
 
 // S1 to S8.

@@ -7,7 +7,7 @@ use Rattle.rules.specs.Words.{tableOf}
 use Prim.Native.Nat.{_≤_}
 use Rattle.laws.proofs.Words.{next-doc-in}
 use Rattle.sound.proofs.Checks.{examined-long}
-use Rattle.asks.proofs.Answered.{readable, counted-position}
+use Rattle.asks.proofs.Answered.{readable, counted-position, counted-steps}
 use Rattle.navigates.proofs.Judges.{free}
 use Rattle.navigates.proofs.Settled.{place-asks, settle-asks, settled-is}
 use Rattle.navigates.proofs.go_from.Statement.{statement}
@@ -20,7 +20,7 @@ go-from-spec =
     (λ c κs. readable _ (free _ _ (c .before .before .before .before .pre) .examined))
     (λ c κs. let c1 = c .before in
     let c6 = c1 .before .before .before .before .before in
-    let e = free _ _ (c6 .pre) .examined in (e, counted-position (now (c6 .args .words)) e _ (c1 .count-steps .ensures)))
+    let e = free _ _ (c6 .pre) .examined in (e, counted-position (now (c6 .args .words)) e _ (c1 .count-steps .ensures), counted-steps (now (c6 .args .words)) e _ (c1 .count-steps .ensures)))
     (λ c κs. let c8 = c .before .before .before .before .before .before .before .before in
     let l = examined-long _ (free _ _ (c8 .pre) .examined) in omega arith)
     (λ c κs. let c10 = c .before .before .before .before .before .before .before .before .before .before in
@@ -30,7 +30,7 @@ go-from-spec =
     let c11 = c9 .before .before in
     let c12 = c11 .before in
     let w : tableOf (now (c12 .args .words)) .nextDoc ≤ none = omega (arith, c11 .slice-known .given 1, next-doc-in (now (c12 .args .words))) in
-    (free _ _ (c12 .pre) .examined, w, c5 .first-upcoming .ensures, c9 .row-count .ensures))
+    (free _ _ (c12 .pre) .examined, w, c5 .removal-start .ensures, c9 .row-count .ensures))
     (λ c κs. let c3 = c .before .before .before in
     let c15 = c3 .before .before .before .before .before .before .before .before .before .before .before .before in
     let c16 = c15 .before in

@@ -10,13 +10,13 @@ pub pass-start-spec : {M : Type 1} → statement M
 pass-start-spec =
     tie.close (tie.spec
     (λ c κs. search needs)
-    (λ c κs. search needs)
-    (λ c κs. search needs)
-    (λ c κs. search needs)
     (λ c. search needs)
-    (λ c. let c3 = c .before .before .before in
+    (λ c κs. search needs)
+    (λ c κs. search needs)
+    (λ c κs. search needs)
+    (λ c. let c1 = c .before in
+    let c2 = c1 .before in
+    let c3 = c2 .before in
     let c4 = c3 .before in
-    let c5 = c4 .before in
-    let c6 = c5 .before in
-    let c8 = c6 .before .before in
-    passed-start (rowsOf (now (c8 .args .words))) _ _ _ _ _ (c6 .shown .ensures) (c3 .parent .ensures) (c5 .frame .ensures) (c4 .document .ensures)))
+    let c6 = c4 .before .before in
+    passed-start (rowsOf (now (c6 .args .words))) _ _ _ _ (c4 .shown .ensures) (c6 .pre .1) (c1 .parent .ensures) (c3 .frame .ensures) (c2 .document .ensures)))

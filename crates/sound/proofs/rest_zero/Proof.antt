@@ -1,23 +1,22 @@
 -- `sound::rest_zero` meets its contract. Assumes nothing.
 use Prim.Native.Nat.{_≤_, _-_, _+_, _*_}
-use mathlib.Core.Bool.{true}
-use mathlib.Core.Path.{_≡_}
+use mathlib.Core.Path.{_≡_, sym, refl}
 use native.Mathlib.Omega.{arith}
 use lib.ListN.{length}
 use borrow.Author.Needs.{needs}
-use Rattle.rules.specs.Below.{allBelow}
 use denote.Ref.{now}
+use Rattle.rules.specs.Below.{allBelow}
 use Rattle.rules.specs.Words.{capacity, rowsOf}
 use Rattle.rules.specs.Sound.{zero?}
-use Rattle.sound.proofs.Passes.{rest-starts, rest-more, rest-stops, rest-ends}
+use Rattle.sound.proofs.Passes.{rest-starts, rest-more, rest-ends}
 use Rattle.sound.proofs.rest_zero.Statement.{statement}
 use Rattle.sound.proofs.rest_zero.Tie as tie
 
 abbrev Inv-loop : tie.InvT-loop
-Inv-loop words n c end k₀ k = (k ≤ end) × (end ≡ 3 + 4 * capacity words) × (3 + 4 * length (rowsOf words) ≤ k) × (allBelow k (zero? words) ≡ true)
+Inv-loop words n c end k₀ zero₀ k zero = (k ≤ end) × (end ≡ 3 + 4 * capacity words) × (3 + 4 * length (rowsOf words) ≤ k) × (zero ≡ allBelow k (zero? words))
 
 abbrev μ-loop : tie.MeasureT-loop
-μ-loop words n c end k₀ k = end - k
+μ-loop words n c end k₀ zero₀ k zero = end - k
 
 pub rest-zero-spec : {M : Type 1} → statement M
 rest-zero-spec =
@@ -28,15 +27,12 @@ rest-zero-spec =
     (λ c. search needs)
     (λ c. search needs)
     (λ c. search needs)
-    (λ c. (omega arith, omega arith, omega arith, rest-starts (now (c .args .words)) _ (c .pre .0)))
+    (λ c. (omega arith, omega arith, omega arith, sym (rest-starts (now (c .args .words)) _ (c .pre .0))))
     (λ c. search needs)
     (λ c. search needs)
-    (λ c. let c3 = c .before .before .before in
-    let c4 = c3 .before in
-    rest-stops (now (c4 .args .words)) _ (c3 .loop .inv .2) (omega arith) (c .if1 .taken))
     (λ c. search needs)
     (λ c. search needs)
-    (λ c. let c3 = c .before .before .before in
-    let c4 = c3 .before in
-    (omega arith, omega arith, omega arith, rest-more (now (c4 .args .words)) _ (c3 .loop .inv .3) (c .if1 .left)))
-    (λ c. rest-ends (now (c .before .before .args .words)) _ (c .before .loop .inv .3) (omega arith)))
+    (λ c. let c2 = c .before .before in
+    (omega arith, omega arith, omega arith, rest-more (now (c2 .before .args .words)) _ _ _ (c2 .loop .inv .3) (c2 .loop .inv .2) refl))
+    (λ c. let c1 = c .before in
+    rest-ends (now (c1 .before .args .words)) _ _ (c1 .loop .inv .3) (omega arith)))

@@ -1,0 +1,71 @@
+//! Both libraries must answer alike and leave the same in all that is lent.
+use crate::calls::{Call, Lent, make};
+use crate::cases::Case;
+use crate::face::{OURS, TWIN};
+
+/// Makes a call with both libraries; the answer, and what is left.
+fn both(name: &str, call: Call, start: &Lent) -> (u32, Lent) {
+    let (mut ours, mut twin) = (start.clone(), start.clone());
+    let answers = (make(&OURS, call, &mut ours), make(&TWIN, call, &mut twin));
+    assert_eq!(answers.0, answers.1, "{name}: the answers differ");
+    assert!(ours == twin, "{name}: what is left differs");
+    (answers.0, ours)
+}
+
+/// The same kind of call with every small argument.
+fn others(call: Call, most: u32) -> Vec<Call> {
+    let amounts = || -(most as i32)..=most as i32;
+    match call {
+        Call::Open(_) => (0..=most).map(Call::Open).collect(),
+        Call::Navigate(_) => (0..=most).map(Call::Navigate).collect(),
+        Call::Visible(_) => (0..=most).map(Call::Visible).collect(),
+        Call::Traverse(_) => amounts().map(Call::Traverse).collect(),
+        Call::Stretch(_) => amounts().map(Call::Stretch).collect(),
+        call => vec![call],
+    }
+}
+
+/// What is lent, with one word or byte changed, or with one run cut short.
+fn damaged(lent: &Lent) -> Vec<Lent> {
+    let mut all = Vec::new();
+    let mut with = |change: &dyn Fn(&mut Lent)| {
+        let mut other = lent.clone();
+        change(&mut other);
+        all.push(other);
+    };
+    for k in 0..lent.words.len() {
+        with(&|other| other.words.truncate(k));
+        for value in [0, 1, 2, lent.words[k].wrapping_add(1), u32::MAX] {
+            with(&|other| other.words[k] = value);
+        }
+    }
+    for k in 0..lent.first.len() {
+        with(&|other| other.first.truncate(k));
+        with(&|other| other.second.truncate(k));
+    }
+    for k in 0..lent.bytes.len() {
+        with(&|other| other.bytes.truncate(k));
+        with(&|other| other.bytes[k] = other.bytes[k].wrapping_add(1));
+    }
+    all
+}
+
+/// Fails where the libraries differ on a case, or where what is timed does not return to its start.
+pub fn check(case: &Case) {
+    let (answer, end) = both(case.name, case.call, &case.lent);
+    assert_eq!(answer, 0, "{}: refused", case.name);
+    if let Call::Traverse(delta) = case.call {
+        let (_, back) = both(case.name, Call::Traverse(-delta), &end);
+        assert!(back.words == case.lent.words, "{}: no way back", case.name);
+    }
+}
+
+/// Fails where the libraries differ near a case: on other arguments, and on damaged and short runs.
+pub fn check_near(case: &Case) {
+    for call in others(case.call, case.lent.words[0] + 1) {
+        both(case.name, call, &case.lent);
+    }
+    for lent in damaged(&case.lent) {
+        both(case.name, case.call, &lent);
+    }
+}

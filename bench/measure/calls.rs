@@ -1,0 +1,88 @@
+//! A call with what is lent to it.
+use crate::face::Face;
+use std::hint::black_box;
+use std::ops::Range;
+
+#[derive(Clone, Copy, PartialEq)]
+pub enum Call {
+    Fresh,
+    Open(u32),
+    Navigate(u32),
+    Traverse(i32),
+    Position,
+    Visible(u32),
+    Lists,
+    Stretch(i32),
+    Outline,
+    Save,
+    Load,
+}
+
+/// What is lent: the record, two runs of words, a run of bytes, and the out words.
+#[derive(Clone, PartialEq, Debug)]
+pub struct Lent {
+    pub words: Vec<u32>,
+    pub first: Vec<u32>,
+    pub second: Vec<u32>,
+    pub bytes: Vec<u8>,
+    pub outs: [u32; 3],
+}
+
+impl Lent {
+    /// A record, with runs that are long enough for every answer.
+    pub fn new(words: Vec<u32>) -> Lent {
+        let len = words.len();
+        Lent { words, first: vec![7; len], second: vec![7; len], bytes: vec![7; 5 * len], outs: [7; 3] }
+    }
+}
+
+/// Makes a call; its answer is 0 or a refusal's number.
+#[inline(always)]
+pub fn make(face: &Face, call: Call, lent: &mut Lent) -> u32 {
+    let count = lent.words.len();
+    let words = black_box(lent.words.as_mut_ptr());
+    let [a, b, c] = &mut lent.outs;
+    let (first, first_count) = (lent.first.as_mut_ptr(), lent.first.len());
+    let (second, second_count) = (lent.second.as_mut_ptr(), lent.second.len());
+    let (bytes, bytes_count) = (lent.bytes.as_mut_ptr(), lent.bytes.len());
+    // SAFETY: each pointer comes with the length of its own run, and the runs and out words are apart.
+    let answer = unsafe {
+        match call {
+            Call::Fresh => (face.fresh)(words, count),
+            Call::Open(parent) => (face.open)(words, count, black_box(parent), a, b),
+            Call::Navigate(from) => (face.navigate)(words, count, black_box(from), a),
+            Call::Traverse(delta) => (face.traverse)(words, count, black_box(delta), first, first_count, a),
+            Call::Position => (face.position)(words, count, a, b, c),
+            Call::Visible(document) => (face.visible)(words, count, black_box(document), a),
+            Call::Lists => (face.lists)(words, count, first, first_count, second, second_count, a, b),
+            Call::Stretch(delta) => (face.stretch)(first, first_count, second, second_count, black_box(delta), a),
+            Call::Outline => (face.outline)(words, count, first, first_count, a),
+            Call::Save => (face.save)(words, count, bytes, bytes_count, a),
+            Call::Load => (face.load)(words, count, bytes, bytes_count, a),
+        }
+    };
+    black_box(answer)
+}
+
+/// The words that a call changes, as they are before it: the first three, and a range.
+pub struct Undo {
+    head: [u32; 3],
+    range: Range<usize>,
+    old: Vec<u32>,
+}
+
+impl Undo {
+    /// What differs between a record before a call and after it.
+    pub fn of(before: &[u32], after: &[u32]) -> Undo {
+        let differs = |&k: &usize| before[k] != after[k];
+        let start = (3..before.len()).find(differs).expect("a changed row");
+        let end = (3..before.len()).rfind(differs).expect("a changed row") + 1;
+        Undo { head: [before[0], before[1], before[2]], range: start..end, old: before[start..end].to_vec() }
+    }
+
+    /// Puts those words back.
+    pub fn put_back(&self, words: &mut [u32]) {
+        words[..3].copy_from_slice(&self.head);
+        words[self.range.clone()].copy_from_slice(&self.old);
+    }
+}

@@ -1,0 +1,64 @@
+//! The calls that are measured, each on a record of a shape.
+use crate::calls::{Call, Lent, make};
+use crate::face::OURS;
+use crate::shapes::{Shape, record};
+
+/// A call, and what is lent to it.
+pub struct Case {
+    pub name: &'static str,
+    pub call: Call,
+    pub lent: Lent,
+}
+
+/// What is left after a call of the library that must be accepted.
+pub fn after(call: Call, words: &[u32]) -> Lent {
+    let mut lent = Lent::new(words.to_vec());
+    assert_eq!(make(&OURS, call, &mut lent), 0, "a call that is measured is refused");
+    lent
+}
+
+/// The document of the last row.
+fn last(words: &[u32]) -> u32 {
+    words[4 * words[0] as usize - 1]
+}
+
+/// The document of the last row that is shown.
+fn last_shown(words: &[u32]) -> u32 {
+    let row = (0..words[0] as usize).rfind(|row| words[6 + 4 * row] == 1).expect("a shown row");
+    words[3 + 4 * row]
+}
+
+/// A record's saved form beside the record.
+fn saved(words: &[u32]) -> Lent {
+    let mut lent = after(Call::Save, words);
+    lent.bytes.truncate(lent.outs[0] as usize);
+    lent
+}
+
+/// Every call on records of a shape with so many rows, before or after it.
+pub fn cases(shape: Shape, rows: usize) -> Vec<Case> {
+    let case = |name, call, words: &[u32]| Case { name, call, lent: Lent::new(words.to_vec()) };
+    let whole = record(shape, rows, rows);
+    let less = record(shape, rows - 1, rows);
+    let stepped = after(Call::Navigate(last(&less)), &less).words;
+    let mut cases = vec![
+        case("fresh", Call::Fresh, &whole),
+        case("open", Call::Open(last(&less)), &less),
+        case("navigate", Call::Navigate(last(&less)), &less),
+        case("traverse by 1", Call::Traverse(-1), &stepped),
+        case("position", Call::Position, &whole),
+        case("visible", Call::Visible(last(&whole)), &whole),
+        case("lists", Call::Lists, &whole),
+        case("stretch", Call::Stretch(-(rows as i32)), &whole),
+        case("outline", Call::Outline, &whole),
+        case("save", Call::Save, &whole),
+        Case { name: "load", call: Call::Load, lent: saved(&whole) },
+    ];
+    if shape == Shape::Desk {
+        let steps = after(Call::Position, &stepped).outs[1] as i32;
+        let halfway = after(Call::Traverse(-(steps + 1) / 2), &stepped).words;
+        cases.insert(3, case("navigate, half upcoming", Call::Navigate(last_shown(&halfway)), &halfway));
+        cases.insert(5, case("traverse by all steps", Call::Traverse(-steps), &stepped));
+    }
+    cases
+}

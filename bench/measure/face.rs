@@ -1,0 +1,72 @@
+//! Both libraries through one face.
+use twin::face;
+
+type Words = *mut u32;
+type Read = *const u32;
+type Out<'a> = &'a mut u32;
+
+/// The calls of include/frame_history.h.
+pub struct Face {
+    pub fresh: unsafe extern "C" fn(Words, usize) -> u32,
+    pub open: unsafe extern "C" fn(Words, usize, u32, Out, Out) -> u32,
+    pub navigate: unsafe extern "C" fn(Words, usize, u32, Out) -> u32,
+    pub traverse: unsafe extern "C" fn(Words, usize, i32, Words, usize, Out) -> u32,
+    pub position: unsafe extern "C" fn(Read, usize, Out, Out, Out) -> u32,
+    pub visible: unsafe extern "C" fn(Read, usize, u32, Out) -> u32,
+    pub lists: unsafe extern "C" fn(Read, usize, Words, usize, Words, usize, Out, Out) -> u32,
+    pub stretch: unsafe extern "C" fn(Read, usize, Read, usize, i32, Out) -> u32,
+    pub outline: unsafe extern "C" fn(Read, usize, Words, usize, Out) -> u32,
+    pub save: unsafe extern "C" fn(Read, usize, *mut u8, usize, Out) -> u32,
+    pub load: unsafe extern "C" fn(Words, usize, *const u8, usize, Out) -> u32,
+}
+
+extern "C" {
+    fn frame_history_fresh(words: Words, count: usize) -> u32;
+    fn frame_history_open(words: Words, count: usize, parent: u32, document: Out, frame: Out) -> u32;
+    fn frame_history_navigate(words: Words, count: usize, from: u32, document: Out) -> u32;
+    fn frame_history_traverse(words: Words, count: usize, delta: i32, changes: Words, changes_count: usize, changed: Out) -> u32;
+    fn frame_history_position(words: Read, count: usize, position: Out, steps: Out, length: Out) -> u32;
+    fn frame_history_visible(words: Read, count: usize, document: u32, answer: Out) -> u32;
+    fn frame_history_lists(
+        words: Read,
+        count: usize,
+        taken: Words,
+        taken_count: usize,
+        upcoming: Words,
+        upcoming_count: usize,
+        takens: Out,
+        upcomings: Out,
+    ) -> u32;
+    fn frame_history_stretch(taken: Read, taken_count: usize, upcoming: Read, upcoming_count: usize, delta: i32, entries: Out) -> u32;
+    fn frame_history_outline(words: Read, count: usize, pairs: Words, pairs_count: usize, written: Out) -> u32;
+    fn frame_history_save(words: Read, count: usize, bytes: *mut u8, bytes_count: usize, length: Out) -> u32;
+    fn frame_history_load(words: Words, count: usize, bytes: *const u8, bytes_count: usize, rows: Out) -> u32;
+}
+
+pub static OURS: Face = Face {
+    fresh: frame_history_fresh,
+    open: frame_history_open,
+    navigate: frame_history_navigate,
+    traverse: frame_history_traverse,
+    position: frame_history_position,
+    visible: frame_history_visible,
+    lists: frame_history_lists,
+    stretch: frame_history_stretch,
+    outline: frame_history_outline,
+    save: frame_history_save,
+    load: frame_history_load,
+};
+
+pub static TWIN: Face = Face {
+    fresh: face::fresh,
+    open: face::open,
+    navigate: face::navigate,
+    traverse: face::traverse,
+    position: face::position,
+    visible: face::visible,
+    lists: face::lists,
+    stretch: face::stretch,
+    outline: face::outline,
+    save: face::save,
+    load: face::load,
+};

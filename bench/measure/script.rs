@@ -1,0 +1,76 @@
+//! Scripts: one to run, and how fast both programs run it.
+use crate::calls::{Call, Lent, make};
+use crate::face::OURS;
+use std::fs::File;
+use std::io::Write;
+use std::process::{Command, Stdio};
+use std::time::Instant;
+
+const ROUNDS: usize = 5;
+
+/// A small generator of numbers that are the same in each run.
+struct Random(u64);
+
+impl Random {
+    /// A number below a bound.
+    fn below(&mut self, bound: u32) -> u32 {
+        self.0 ^= self.0 << 13;
+        self.0 ^= self.0 >> 7;
+        self.0 ^= self.0 << 17;
+        (self.0 >> 32) as u32 % bound
+    }
+}
+
+/// Makes a call on the writer's own record; its first out word.
+fn asked(lent: &mut Lent, call: Call) -> u32 {
+    make(&OURS, call, lent);
+    lent.outs[0]
+}
+
+/// A visible document.
+fn some_visible(lent: &mut Lent, random: &mut Random) -> u32 {
+    let pairs = asked(lent, Call::Outline);
+    lent.first[2 * random.below(pairs) as usize + 1]
+}
+
+/// Writes a script of so many lines: sessions beneath a new root document, each left by going all the way back.
+/// Some lines are bad, and some are refused.
+pub fn write(lines: usize, out: &mut impl Write) -> std::io::Result<()> {
+    let mut random = Random(20160818);
+    let lent = &mut Lent::new(vec![0; 3 + 4 * 512]);
+    asked(lent, Call::Fresh);
+    for line in 0..lines {
+        let (name, call) = match (asked(lent, Call::Position), random.below(20)) {
+            (0, _) => ("nav", Call::Navigate(0)),
+            (position, _) if line % 100 == 0 => ("go", Call::Traverse(-(position as i32))),
+            (_, 0..=5) => ("nav", Call::Navigate(some_visible(lent, &mut random))),
+            (_, 6..=8) => ("open", Call::Open(some_visible(lent, &mut random))),
+            (_, 9..=13) => ("go", Call::Traverse(-1)),
+            (_, 14..=17) => ("go", Call::Traverse(1)),
+            (_, 18) => ("nav", Call::Navigate(u32::MAX)),
+            _ => ("back", Call::Position),
+        };
+        make(&OURS, call, lent);
+        match call {
+            Call::Navigate(number) | Call::Open(number) => writeln!(out, "{name} {number}")?,
+            Call::Traverse(delta) => writeln!(out, "{name} {delta}")?,
+            _ => writeln!(out, "{name}")?,
+        }
+    }
+    Ok(())
+}
+
+/// The seconds that a program takes for an input.
+fn seconds(program: &str, input: &str) -> f64 {
+    let input = File::open(input).expect("the script can be read");
+    let start = Instant::now();
+    let status = Command::new(program).stdin(input).stdout(Stdio::null()).status().expect("the program can be run");
+    assert!(status.success(), "{program} fails");
+    start.elapsed().as_secs_f64()
+}
+
+/// The seconds that the program and its twin take for an input, the least of rounds in turn.
+pub fn measure(ours: &str, twin: &str, input: &str) -> (f64, f64) {
+    let rounds = (0..ROUNDS).map(|_| (seconds(ours, input), seconds(twin, input)));
+    rounds.fold((f64::MAX, f64::MAX), |least, round| (least.0.min(round.0), least.1.min(round.1)))
+}

@@ -1,0 +1,87 @@
+//! The calls as a host in C would call them, so that both libraries are measured through the same face: see include/frame_history.h.
+use crate::record::Refusal;
+use crate::{asks, moves, outline, saved, traverse};
+use std::slice::{from_raw_parts as lent, from_raw_parts_mut as lent_mut};
+
+/// Hands over the values of an accepted call and answers 0, or answers the refusal's number.
+fn answer<T>(result: Result<T, Refusal>, give: impl FnOnce(T)) -> u32 {
+    match result {
+        Ok(values) => {
+            give(values);
+            0
+        }
+        Err(refusal) => refusal as u32,
+    }
+}
+
+/// The record of a new window.
+pub unsafe extern "C" fn fresh(words: *mut u32, count: usize) -> u32 {
+    answer(moves::fresh(lent_mut(words, count)), |()| ())
+}
+
+/// Opens a frame: document and frame.
+pub unsafe extern "C" fn open(words: *mut u32, count: usize, parent: u32, document: &mut u32, frame: &mut u32) -> u32 {
+    answer(moves::open(lent_mut(words, count), parent), |numbers| (*document, *frame) = numbers)
+}
+
+/// Navigates: the new document.
+pub unsafe extern "C" fn navigate(words: *mut u32, count: usize, from: u32, document: &mut u32) -> u32 {
+    answer(moves::navigate(lent_mut(words, count), from), |number| *document = number)
+}
+
+/// Traverses: how many change rows.
+pub unsafe extern "C" fn traverse(words: *mut u32, count: usize, delta: i32, changes: *mut u32, changes_count: usize, changed: &mut u32) -> u32 {
+    answer(traverse::traverse(lent_mut(words, count), delta, lent_mut(changes, changes_count)), |n| *changed = n as u32)
+}
+
+/// Position, steps, and the length for scripts.
+pub unsafe extern "C" fn position(words: *const u32, count: usize, position: &mut u32, steps: &mut u32, length: &mut u32) -> u32 {
+    answer(asks::position(lent(words, count)), |(p, s)| (*position, *steps, *length) = (p as u32, s as u32, s as u32))
+}
+
+/// Whether a document is visible.
+pub unsafe extern "C" fn visible(words: *const u32, count: usize, document: u32, seen: &mut u32) -> u32 {
+    answer(asks::visible(lent(words, count), document), |yes| *seen = yes as u32)
+}
+
+/// Taken and upcoming steps: how many of each.
+pub unsafe extern "C" fn lists(
+    words: *const u32,
+    count: usize,
+    taken: *mut u32,
+    taken_count: usize,
+    upcoming: *mut u32,
+    upcoming_count: usize,
+    takens: &mut u32,
+    upcomings: &mut u32,
+) -> u32 {
+    let (taken, upcoming) = (lent_mut(taken, taken_count), lent_mut(upcoming, upcoming_count));
+    answer(asks::lists(lent(words, count), taken, upcoming), |(t, u)| (*takens, *upcomings) = (t as u32, u as u32))
+}
+
+/// How many entries of the own list.
+pub unsafe extern "C" fn stretch(
+    taken: *const u32,
+    taken_count: usize,
+    upcoming: *const u32,
+    upcoming_count: usize,
+    delta: i32,
+    entries: &mut u32,
+) -> u32 {
+    answer(asks::stretch(lent(taken, taken_count), lent(upcoming, upcoming_count), delta), |part| *entries = part.len() as u32)
+}
+
+/// The visible documents: how many pairs.
+pub unsafe extern "C" fn outline(words: *const u32, count: usize, pairs: *mut u32, pairs_count: usize, written: &mut u32) -> u32 {
+    answer(outline::outline(lent(words, count), lent_mut(pairs, pairs_count)), |n| *written = n as u32)
+}
+
+/// The saved form: its length.
+pub unsafe extern "C" fn save(words: *const u32, count: usize, bytes: *mut u8, bytes_count: usize, length: &mut u32) -> u32 {
+    answer(saved::save(lent(words, count), lent_mut(bytes, bytes_count)), |n| *length = n as u32)
+}
+
+/// A record from its saved form: how many rows.
+pub unsafe extern "C" fn load(words: *mut u32, count: usize, bytes: *const u8, bytes_count: usize, rows: &mut u32) -> u32 {
+    answer(saved::load(lent_mut(words, count), lent(bytes, bytes_count)), |n| *rows = n as u32)
+}
