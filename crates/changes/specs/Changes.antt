@@ -1,9 +1,14 @@
 -- Change rows as plain words, and what the function that fills them relies on. Definitions.
 use Prim.Native.Nat.{ℕ, _+_, _*_, _≤_, _<_}
-use mathlib.Core.List.{List, [], _∷_, _++_}
+use mathlib.Core.Bool.{cond}
+use mathlib.Core.List.{List, [], _∷_, _++_, flatMap}
 use mathlib.Core.Path.{_≡_}
+use lib.Dec.{eqb}
+use lib.IntN.{ℤ}
 use lib.ListN.{length}
-use Rattle.rules.specs.Rows.{none}
+use Rattle.rules.specs.Rows.{Row, Table, none, flag}
+use Rattle.rules.specs.Steps.{visible}
+use Rattle.rules.specs.Moves.{walked, frames, shownDoc}
 use Rattle.rules.specs.Words.{tableOf, rowsOf}
 use Rattle.traverses.specs.declared.Trip.{Trip}
 use Rattle.traverses.specs.Answers.{tripText}
@@ -18,6 +23,21 @@ rowText r = r .frame .0 ∷ r .before .0 ∷ r .after .0 ∷ r .load ∷ []
 unfoldable pub plain : List ChangeRow → List ℕ
 plain [] = []
 plain (r ∷ rows) = r .frame .0 ∷ r .before .0 ∷ r .after .0 ∷ r .load ∷ plain rows
+
+-- "One is written for each frame whose shown document differs between start and end": that of frame f, if there is one.
+unfoldable pub changeIn : List Row → List Row → ℕ → List ChangeRow
+changeIn before after f =
+    cond (eqb (shownDoc before f) (shownDoc after f)) []
+    (record {
+      frame = record { 0 = f };
+      before = record { 0 = shownDoc before f };
+      after = record { 0 = shownDoc after f };
+      load = flag (visible after (shownDoc after f));
+    } ∷ [])
+
+-- All of them, "by rising frame number".
+unfoldable pub changesOf : Table → ℤ → List ChangeRow
+changesOf t δ = flatMap (changeIn (t .rows) (walked δ (t .rows))) (frames t)
 
 -- The words of a trip's change rows of the frames numbered below a bound.
 abbrev pub tripBelow : List ℕ → Trip → ℕ → List ℕ
