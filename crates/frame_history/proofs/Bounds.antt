@@ -2,7 +2,7 @@
 use Prim.Native.Nat.{ℕ, zero, suc, _-_, _*_, _/_, _≤_}
 use mathlib.Core.Bool.{Bool}
 use mathlib.Core.List.{List, [], _∷_, flatMap}
-use mathlib.Core.Path.{_≡_, sym, ap, _∙_}
+use mathlib.Core.Path.{_≡_, refl, sym, ap, _∙_}
 use native.Mathlib.Omega.{arith}
 use lib.Dec.{eqb}
 use lib.IntN.{ℤ, pos, negsuc, natAbs}
@@ -24,7 +24,11 @@ use Rattle.laws.proofs.Central.{position-steps}
 use Rattle.laws.proofs.Lists.{taken-length, upcoming-length}
 use Rattle.laws.proofs.Trips.{saved-length, frames-few}
 use Rattle.sound.proofs.Checks.{examined-sound, examined-held}
+use Rattle.traverses.specs.declared.Traversed.{Traversed}
+use Rattle.traverses.specs.declared.Traversed.the-variants.{Changes, Refused}
+use Rattle.traverses.specs.Answers.{traversedIs}
 use Rattle.outlines.proofs.Outlines.{outline-bound}
+use Rattle.frame_history.specs.Face.{Small}
 
 -- The k-th value of an answer.
 abbrev value : ℕ → Answer → ℕ
@@ -138,6 +142,11 @@ module _ (words : List ℕ) (a : Answer) (runs : List (List ℕ)) where
       let x : length (changes (tableOf words) δ) / 4 ≡ n = ap (value 0) v in
       let s = examined-sound words (record { long = h .0; passes = not-false _ (h .1 .0) }) .table in
       omega (arith, changes-few (tableOf words) δ, frames-few (tableOf words) s, s .s1 .fits)
+
+-- So Traverse's answer can be told.
+pub traverse-told : (words : List ℕ) (δ : ℤ) (room : List ℕ) (answer : Traversed) (runs : List (List ℕ)) → outcome (Call.Traverse words δ room) ≡ record { answer = traversedIs answer; lent = runs } → Small answer
+traverse-told words δ room (Changes n) runs e = omega (arith, traverse-small words (Answer.gives (n ∷ [])) runs δ room n e refl)
+traverse-told words δ room (Refused r) runs e = tt
 
 -- The magnitude of an amount of 32 bits.
 magnitude-small : (δ : ℤ) → SFits w32 δ → natAbs δ ≤ 2147483648

@@ -11,9 +11,20 @@ pub next-row-spec : {M : Type 1} → statement M
 next-row-spec =
     tie.close (tie.spec
     (λ c κs. search needs)
-    (λ c κs. let h = c .before .before .before .pre .ready .held in let i = c .before .next-change .ensures .first (row-found _ _ _ (c .before .before .before .pre) _ (c .before .next-change .ensures)) in search needs)
-    (λ c κs. let h = c .before .before .before .before .pre .ready .held in let i = c .before .before .next-change .ensures .second (row-found _ _ _ (c .before .before .before .before .pre) _ (c .before .before .next-change .ensures)) in search needs)
-    (λ c κs. let h = c .before .before .before .before .before .pre .ready .held in let i = c .before .before .before .next-change .ensures .second (row-found _ _ _ (c .before .before .before .before .before .pre) _ (c .before .before .before .next-change .ensures)) in search needs)
+    (λ c κs. let c1 = c .before in
+    let c3 = c1 .before .before in
+    let h = c3 .pre .ready .held in let i = c1 .next-change .ensures .first (row-found _ _ _ (c3 .pre) _ (c1 .next-change .ensures)) in search needs)
+    (λ c κs. let c2 = c .before .before in
+    let c4 = c2 .before .before in
+    let h = c4 .pre .ready .held in let i = c2 .next-change .ensures .second (row-found _ _ _ (c4 .pre) _ (c2 .next-change .ensures)) in search needs)
+    (λ c κs. let c3 = c .before .before .before in
+    let c5 = c3 .before .before in
+    let h = c5 .pre .ready .held in let i = c3 .next-change .ensures .second (row-found _ _ _ (c5 .pre) _ (c3 .next-change .ensures)) in search needs)
     (λ c. search needs)
-    (λ c. let e = row-found _ _ _ (c .before .before .before .before .before .before .pre) _ (c .before .before .before .before .next-change .ensures) in
-    row-follows (now (c .before .before .before .before .before .before .args .words)) _ _ (c .before .before .before .before .before .before .pre) _ (c .before .before .before .before .next-change .ensures) _ _ _ (c .before .before .document .ensures) (c .before .document2 .ensures) (c .climb .ensures) (omega (arith, c .before .before .before .before .before .shared-slice-known .given 2, next-frame-in (now (c .before .before .before .before .before .before .args .words))))))
+    (λ c. let c1 = c .before in
+    let c2 = c1 .before in
+    let c4 = c2 .before .before in
+    let c5 = c4 .before in
+    let c6 = c5 .before in
+    let e = row-found _ _ _ (c6 .pre) _ (c4 .next-change .ensures) in
+    row-follows (now (c6 .args .words)) _ _ (c6 .pre) _ (c4 .next-change .ensures) _ _ _ (c2 .document .ensures) (c1 .document2 .ensures) (c .climb .ensures) (omega (arith, c5 .shared-slice-known .given 2, next-frame-in (now (c6 .args .words))))))
