@@ -74,6 +74,9 @@ module _ (words : List ℕ) (trip : Trip) (from : ℕ) (h : Awaits words trip fr
   pub row-found : c .frame .0 < tableOf words .nextFrame
   row-found = by-lt (c .frame .0) (tableOf words .nextFrame) (λ l. l) (λ l. let e = ap length (n .last l) in let s = h .some in absurd (omega arith))
 
+  pub row-places : (c .old .0 < length (rowsOf words)) × (c .new .0 < length (rowsOf words))
+  row-places = (n .first row-found, n .second row-found)
+
   pub row-follows : (b a : DocNo) (v : Bool) → b .0 ≡ docAt (rowsOf words) (c .old .0) → a .0 ≡ docAt (rowsOf words) (c .new .0) → v ≡ visibleAt (rowsOf words) (c .new .0) → c .frame .0 < none →
       Follows words trip from (record { frame = c .frame; before = b; after = a; load = boolByte v })
   row-follows b a v e f g l =

@@ -3,7 +3,7 @@ use native.Mathlib.Omega.{arith}
 use borrow.Author.Needs.{needs}
 use denote.Ref.{now}
 use Rattle.laws.proofs.Words.{next-frame-in}
-use Rattle.changes.proofs.Filling.{row-found, row-follows}
+use Rattle.changes.proofs.Filling.{row-found, row-places, row-follows}
 use Rattle.changes.proofs.next_row.Statement.{statement}
 use Rattle.changes.proofs.next_row.Tie as tie
 
@@ -13,13 +13,13 @@ next-row-spec =
     (λ c κs. search needs)
     (λ c κs. let c1 = c .before in
     let c3 = c1 .before .before in
-    let h = c3 .pre .ready .held in let i = c1 .next-change .ensures .first (row-found _ _ _ (c3 .pre) _ (c1 .next-change .ensures)) in search needs)
+    let h = c3 .pre .ready .held in let p = row-places _ _ _ (c3 .pre) _ (c1 .next-change .ensures) in let i = p .0 in let j = p .1 in search needs)
     (λ c κs. let c2 = c .before .before in
     let c4 = c2 .before .before in
-    let h = c4 .pre .ready .held in let i = c2 .next-change .ensures .second (row-found _ _ _ (c4 .pre) _ (c2 .next-change .ensures)) in search needs)
+    let h = c4 .pre .ready .held in let p = row-places _ _ _ (c4 .pre) _ (c2 .next-change .ensures) in let i = p .0 in let j = p .1 in search needs)
     (λ c κs. let c3 = c .before .before .before in
     let c5 = c3 .before .before in
-    let h = c5 .pre .ready .held in let i = c3 .next-change .ensures .second (row-found _ _ _ (c5 .pre) _ (c3 .next-change .ensures)) in search needs)
+    let h = c5 .pre .ready .held in let p = row-places _ _ _ (c5 .pre) _ (c3 .next-change .ensures) in let i = p .0 in let j = p .1 in search needs)
     (λ c. search needs)
     (λ c. let c1 = c .before in
     let c2 = c1 .before in
