@@ -15,6 +15,8 @@ use Rattle.rules.specs.Words.{put, tableOf}
 use Rattle.rules.specs.Calls.{Call, Answer, tooShort, refusals, accepted, outcome, NoneGiven}
 use Rattle.laws.proofs.Tests.{test, same-tests}
 use Rattle.laws.proofs.Calls.{by-ladder, outcome-accepted, outcome-refused, refused-keeps}
+use Rattle.traverses.specs.declared.Traversed.{Traversed}
+use Rattle.traverses.specs.Answers.{traversedIs}
 use Rattle.changes.specs.declared.ChangeRow.{ChangeRow}
 use Rattle.changes.specs.Changes.{plain, changeIn, changesOf}
 use Rattle.changes.proofs.Filling.{length-plain, plain-same}
@@ -59,6 +61,14 @@ rows-short t δ rows =
 -- The runs of an outcome.
 abbrev run : ℕ → List (List ℕ) → List ℕ
 run k runs = getD runs k []
+
+-- Traverse with the rows lent as words, and with the rows: the same answer, the same record, and row for row the same change rows.
+pub row-for-row : (words words₁ words₂ room : List ℕ) (δ : ℤ) (rows rows' : List ChangeRow) (r₁ r₂ : Traversed) →
+    outcome (Call.Traverse words δ (plain rows)) ≡ record { answer = traversedIs r₁; lent = words₁ ∷ room ∷ [] } →
+    outcome (Call.Traverse words δ (plain rows)) ≡ record { answer = traversedIs r₂; lent = words₂ ∷ plain rows' ∷ [] } → (traversedIs r₁ ≡ traversedIs r₂) × (words₁ ≡ words₂) × (room ≡ plain rows')
+row-for-row words words₁ words₂ room δ rows rows' r₁ r₂ e f =
+    let s = sym e ∙ f in
+    (ap (λ z. z .answer) s, ap (λ z. run 0 (z .lent)) s, ap (λ z. run 1 (z .lent)) s)
 
 -- What the promise of `traverse` says.
 module _ (words words' : List ℕ) (δ : ℤ) (rows rows' : List ChangeRow) (a : Answer)

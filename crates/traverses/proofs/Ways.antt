@@ -238,10 +238,10 @@ unfolding refusals
 check-way words room δ k r e f = stays words δ room r (λ lent z. outcome-refused (Call.Traverse words δ lent) _ (check-given words _ k r e f))
 
 -- Whoever writes the change rows of a shift.
-module _ (words words' : List ℕ) (δ : ℤ) (s : Shifted) (lent : List ℕ) where
-  pub went-ready : Shifts words δ (length lent / 4) s words' → (t : Trip) → s ≡ Went t → Ready words' (t .before .0) (t .after .0)
-  went-ready h t e = subst (Arrived words') e (h .arrived)
+pub went-ready : (words words' : List ℕ) (δ : ℤ) (room : ℕ) (s : Shifted) → Shifts words δ room s words' → (t : Trip) → s ≡ Went t → Ready words' (t .before .0) (t .after .0)
+went-ready words words' δ room s h t e = subst (Arrived words') e (h .arrived)
 
+module _ (words words' : List ℕ) (δ : ℤ) (s : Shifted) (lent : List ℕ) where
   pub went-way : (lent' : List ℕ) → Shifts words δ (length lent / 4) s words' → (t : Trip) → s ≡ Went t → lent' ≡ put lent 0 (tripText words' t) →
       outcome (Call.Traverse words δ lent) ≡ record { answer = traversedIs (Changes (t .count)); lent = words' ∷ lent' ∷ [] }
   went-way lent' h t e w = h .outcome-is lent refl ∙ rw (e, w) refl
