@@ -11,7 +11,7 @@
    How much to lend:
      a record of C rows has 3 + 4C words; C is (words - 3) / 4 rounded down, at least 1 and at most 512. Words past 3 + 4C are neither
        read nor written. A row is one document, so C is how many documents the window can hold at a time;
-     change rows: four words a frame are always enough;
+     change rows: four words, or one struct, a frame are always enough;
      lists: C words in each run are always enough, and so are as many as there are steps;
      outline: two words a row are always enough;
      saved bytes: 12 + 16F + 4n for F frames and n rows, so 12 + 20C are always enough, and 10252 for any record. */
@@ -61,6 +61,19 @@ uint32_t frame_history_navigate(uint32_t *words, size_t n, uint32_t from, uint32
    Refused: 1, 2, 6, 9. */
 uint32_t frame_history_traverse(uint32_t *words, size_t n, int32_t delta, uint32_t *changes, size_t changes_n,
                                 uint32_t *count);
+
+/* A change row: a frame, its document before and after, and 1 if the latter is visible then, else 0. */
+typedef struct {
+  uint32_t frame;
+  uint32_t before;
+  uint32_t after;
+  uint32_t load;
+} frame_history_change_row;
+
+/* The same with change rows lent as structs; `rows_n` counts rows. Rows past those written are kept.
+   Refused: 1, 2, 6, 9. */
+uint32_t frame_history_traverse_rows(uint32_t *words, size_t n, int32_t delta, frame_history_change_row *rows,
+                                     size_t rows_n, uint32_t *count);
 
 /* Where the window stands.
    Lent to read: the record. Out: the position, the steps, and the length for scripts; all kept on refusal.

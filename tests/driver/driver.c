@@ -19,10 +19,13 @@ long write(int, const void *, usize);
 void *mmap(void *, usize, int, int, int, long);
 int mprotect(void *, usize, int);
 
+typedef struct { u32 frame, before, after, load; } row;
+
 u32 frame_history_fresh(u32 *words, usize n);
 u32 frame_history_open(u32 *words, usize n, u32 parent, u32 *document, u32 *frame);
 u32 frame_history_navigate(u32 *words, usize n, u32 from, u32 *document);
 u32 frame_history_traverse(u32 *words, usize n, i32 delta, u32 *changes, usize changes_n, u32 *count);
+u32 frame_history_traverse_rows(u32 *words, usize n, i32 delta, row *rows, usize rows_n, u32 *count);
 u32 frame_history_position(const u32 *words, usize n, u32 *position, u32 *steps, u32 *length);
 u32 frame_history_visible(const u32 *words, usize n, u32 document, u32 *answer);
 u32 frame_history_lists(const u32 *words, usize n, u32 *taken, usize taken_n, u32 *upcoming, usize upcoming_n, u32 *taken_count, u32 *upcoming_count);
@@ -128,7 +131,10 @@ static u32 call(const u32 *head, u8 **run) {
   case FRESH: return frame_history_fresh(words, n);
   case OPEN: return frame_history_open(words, n, number, a, b);
   case NAVIGATE: return frame_history_navigate(words, n, number, a);
-  case TRAVERSE: return frame_history_traverse(words, n, (i32)number, first, first_n, a);
+  case TRAVERSE:
+    /* Every other guard word asks for the change rows as structs: the same outcome, of as many rows as the words hold. */
+    if (head[3] & 1) return frame_history_traverse_rows(words, n, (i32)number, (row *)first, first_n / 4, a);
+    return frame_history_traverse(words, n, (i32)number, first, first_n, a);
   case POSITION: return frame_history_position(words, n, a, b, c);
   case VISIBLE: return frame_history_visible(words, n, number, a);
   case LISTS: return frame_history_lists(words, n, first, first_n, second, second_n, a, b);

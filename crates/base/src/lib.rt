@@ -4,9 +4,11 @@ ghost use lib.IntN.{natAbs};
 ghost use Rattle.base.specs.Numbers.{numberOf};
 
 // The number of a document.
+#[repr(C)]
 pub struct DocNo(pub u32);
 
 // The number of a frame.
+#[repr(C)]
 pub struct FrameNo(pub u32);
 
 // The place of a row in the record, counted from 0.

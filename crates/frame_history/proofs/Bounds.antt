@@ -1,7 +1,7 @@
 -- The counts that a call gives fit in an out word. Assumes nothing.
 use Prim.Native.Nat.{ℕ, _-_, _*_, _/_, _≤_}
 use mathlib.Core.List.{List, [], _∷_, flatMap}
-use mathlib.Core.Path.{_≡_, sym, ap, _∙_}
+use mathlib.Core.Path.{_≡_, refl, sym, ap, _∙_}
 use native.Mathlib.Omega.{arith}
 use lib.Dec.{eqb}
 use lib.IntN.{ℤ, pos, negsuc, natAbs}
@@ -23,6 +23,10 @@ use Rattle.laws.proofs.Lists.{taken-length, upcoming-length}
 use Rattle.laws.proofs.Trips.{saved-length, frames-few}
 use Rattle.sound.proofs.Checks.{examined-sound, examined-held}
 use Rattle.laws.proofs.Outlines.{outline-bound}
+use Rattle.traverses.specs.declared.Traversed.{Traversed}
+use Rattle.traverses.specs.declared.Traversed.the-variants.{Changes, Refused}
+use Rattle.traverses.specs.Answers.{traversedIs}
+use Rattle.frame_history.specs.Face.{Small}
 
 -- The k-th value of an answer.
 abbrev value : ℕ → Answer → ℕ
@@ -131,6 +135,11 @@ module _ (words : List ℕ) (a : Answer) (runs : List (List ℕ)) where
       let x : length (changes (tableOf words) δ) / 4 ≡ n = ap (value 0) v in
       let s = examined-sound words (record { long = h .0; passes = not-false _ (h .1 .0) }) .table in
       omega (arith, changes-few (tableOf words) δ, frames-few (tableOf words) s, s .s1 .fits)
+
+-- So Traverse's answer can be told.
+pub traverse-told : (words : List ℕ) (δ : ℤ) (room : List ℕ) (answer : Traversed) (runs : List (List ℕ)) → outcome (Call.Traverse words δ room) ≡ record { answer = traversedIs answer; lent = runs } → Small answer
+traverse-told words δ room (Changes n) runs e = omega (arith, traverse-small words (Answer.gives (n ∷ [])) runs δ room n e refl)
+traverse-told words δ room (Refused r) runs e = tt
 
 -- The magnitude of an amount of 32 bits.
 magnitude-small : (δ : ℤ) → SFits w32 δ → natAbs δ ≤ 2147483648

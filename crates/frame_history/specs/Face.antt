@@ -1,7 +1,11 @@
 -- What a host sees of a call. Definitions.
-use Prim.Native.Nat.{ℕ}
-use mathlib.Core.List.{List}
+use Prim.Native.Nat.{ℕ, _<_, _^_}
+use mathlib.Core.List.{List, [], _∷_}
+use mathlib.Core.Path.{_≡_}
 use Rattle.rules.specs.Calls.{Answer, Outcome}
+use Rattle.traverses.specs.declared.Traversed.{Traversed}
+use Rattle.traverses.specs.declared.Traversed.the-variants.{Changes, Refused}
+use Rattle.traverses.specs.Answers.{traversedIs}
 
 -- The number returned, what the out words hold then, and what the runs hold then that were lent to write in.
 pub record Face : Type 0 where
@@ -17,3 +21,12 @@ shown (Answer.refuses k) olds runs = record { number = k; outs = olds; lent = ru
 -- An outcome as a host sees it whose out words held `olds` before; the lent runs are as the outcome leaves them.
 abbrev pub face : Outcome → List ℕ → Face
 face o olds = shown (o .answer) olds (o .lent)
+
+-- The number of change rows fits a word.
+abbrev pub Small : Traversed → Type 0
+Small (Changes n) = n < 2 ^ 32
+Small (Refused r) = Unit {0}
+
+-- What a host sees of Traverse's answer, whatever the runs hold then.
+abbrev pub Told : Traversed → ℕ → ℕ → ℕ → Type 0
+Told answer old new number = (runs : List (List ℕ)) → shown (traversedIs answer) (old ∷ []) runs ≡ record { number = number; outs = new ∷ []; lent = runs }

@@ -4,6 +4,7 @@ use asks::Sight;
 use asks::Standing;
 use asks::Stretched;
 use base::DocNo;
+use changes::ChangeRow;
 use loads::Loading;
 use moves::Freshened;
 use moves::Opened;
@@ -14,7 +15,8 @@ use traverses::Traversed;
 ghost use mathlib.Core.Path.{_≡_};
 ghost use mathlib.Core.List.{[], _∷_};
 ghost use Rattle.rules.specs.Calls.{Call, outcome};
-ghost use Rattle.frame_history.specs.Face.{face};
+ghost use Rattle.changes.specs.Changes.{plain};
+ghost use Rattle.frame_history.specs.Face.{face, Small, Told};
 
 // Writes the record of a new window: one document in the root frame.
 #[no_mangle]
@@ -63,6 +65,20 @@ pub extern "C" fn frame_history_navigate(words: &mut [u32], from: u32, document:
     }
 }
 
+// What a host sees of Traverse's answer: the count through its out word, and the refusal's number.
+fn told(answer: Traversed, count: &mut u32) -> u32
+    requires { ⌜ Small answer ⌝ }
+    ensures { λ r. ⌜ Told answer (now (count .entry)) (now (count .exit)) r ⌝ }
+{
+    match answer {
+        Traversed::Changes(n) => {
+            *count = n as u32;
+            0
+        }
+        Traversed::Refused(r) => base::refusal_number(r),
+    }
+}
+
 // Traverses by a signed amount: how many change rows are written, of four words each.
 #[no_mangle]
 pub extern "C" fn frame_history_traverse(
@@ -74,13 +90,23 @@ pub extern "C" fn frame_history_traverse(
     ensures { λ r. ⌜ face (outcome (Call.Traverse (now (words .entry)) delta (now (changes .entry)))) (now (count .entry) ∷ [])
         ≡ record { number = r; outs = now (count .exit) ∷ []; lent = now (words .exit) ∷ now (changes .exit) ∷ [] } ⌝ }
 {
-    match traverses::traverse(words, delta, changes) {
-        Traversed::Changes(n) => {
-            *count = n as u32;
-            0
-        }
-        Traversed::Refused(r) => base::refusal_number(r),
-    }
+    let answer = traverses::traverse(words, delta, changes);
+    told(answer, count)
+}
+
+// Traverses by a signed amount: how many change rows are written, into rows lent as structs.
+#[no_mangle]
+pub extern "C" fn frame_history_traverse_rows(
+    words: &mut [u32],
+    delta: i32,
+    rows: &mut [ChangeRow],
+    count: &mut u32,
+) -> u32
+    ensures { λ r. ⌜ face (outcome (Call.Traverse (now (words .entry)) delta (plain (now (rows .entry))))) (now (count .entry) ∷ [])
+        ≡ record { number = r; outs = now (count .exit) ∷ []; lent = now (words .exit) ∷ plain (now (rows .exit)) ∷ [] } ⌝ }
+{
+    let answer = changes::traverse(words, delta, rows);
+    told(answer, count)
 }
 
 // Position, steps, and the length for scripts.

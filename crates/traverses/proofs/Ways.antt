@@ -1,5 +1,5 @@
 -- What Traverse answers, by the ways that it goes. Assumes nothing.
-use Prim.Native.Nat.{ℕ, suc, _+_, _/_, _≤_, _<_}
+use Prim.Native.Nat.{ℕ, suc, _+_, _*_, _/_, _≤_, _<_}
 use mathlib.Core.Bool.{false, So, cond}
 use mathlib.Core.List.{List, [], _∷_, _++_, flatMap}
 use mathlib.Core.Logic.{inl, inr}
@@ -22,6 +22,7 @@ use Rattle.laws.proofs.Central.{flagsAt, central, at-length, at-doc, at-frame, 
 use Rattle.laws.proofs.Travel.{walked-at}
 use Rattle.laws.proofs.Tree.{rising-all}
 use Rattle.laws.proofs.Words.{length-written, table-written}
+use Rattle.laws.proofs.Writes.{put-none}
 use Rattle.laws.proofs.Calls.{outcome-accepted, outcome-refused}
 use Rattle.sound.specs.Check.{checkOf, Examined}
 use Rattle.sound.specs.declared.Check.{Check}
@@ -30,10 +31,14 @@ use Rattle.sound.proofs.Checks.{check-given, examined-long, examined-sound, exa
 use Rattle.traverses.specs.declared.Traversed.the-variants.{Changes, Refused}
 use Rattle.traverses.specs.declared.Goal.{Goal}
 use Rattle.traverses.specs.declared.Goal.the-variants.{To, Outside}
-use Rattle.traverses.specs.Answers.{traversedIs, Travels}
+use Rattle.traverses.specs.declared.Trip.{Trip}
+use Rattle.traverses.specs.declared.Shifted.{Shifted}
+use Rattle.traverses.specs.declared.Shifted.the-variants.{Went, Stayed}
+use Rattle.traverses.specs.Answers.{traversedIs, tripText, Arrived, Shifts, Travels}
 use Rattle.traverses.specs.Goals.{goalOf}
 use Rattle.traverses.specs.Places.{stepsTo}
 use Rattle.traverses.specs.Texts.{docFrom, changeText, textBelow, placesText, movedTo, Ready, Start}
+use Rattle.traverses.proofs.Texts.{no-text}
 
 -- READY
 
@@ -143,12 +148,19 @@ module _ (old : List ℕ) (a b : ℕ) (start : Start old a b) (new : List ℕ) (
 
 -- THE ANSWER
 
--- What comes back of an empty part that was lent.
-pub none-lent : (e l : List ℕ) → length e ≡ 0 → e ++ l ≡ l
-none-lent [] l z = refl
-none-lent (x ∷ e) l z = absurd (omega arith)
+-- A refusal of whatever is lent.
+stays : (words : List ℕ) (δ : ℤ) (room : ℕ) (r : Refusal) →
+    ((lent : List ℕ) → length lent / 4 ≡ room → outcome (Call.Traverse words δ lent) ≡ record { answer = traversedIs (Refused r); lent = words ∷ lent ∷ [] }) → Shifts words δ room (Stayed r) words
+stays words δ room r h =
+    let e = no-text (tableOf words) 0 in
+    record {
+      outcome-is = λ lent l. h lent l ∙ ap (λ z. record { answer = traversedIs (Refused r); lent = words ∷ z ∷ [] }) (put-none lent 0 ∙ ap (put lent 0) (sym e));
+      sized = ap length (sym e);
+      fits = omega arith;
+      arrived = tt;
+    }
 
-module _ (words : List ℕ) (a b : ℕ) (start : Start words a b) (room : List ℕ) (from to : ℕ) (here : from ≡ position (rowsOf words)) (there : stepsTo (rowsOf words) b ≡ to)
+module _ (words : List ℕ) (a b : ℕ) (start : Start words a b) (from to : ℕ) (here : from ≡ position (rowsOf words)) (there : stepsTo (rowsOf words) b ≡ to)
     (reached : to ≤ steps (rowsOf words)) where
   within : (δ : ℤ) → pos from +ℤ δ ≡ pos to → outside (steps (rowsOf words)) (pos (position (rowsOf words)) +ℤ δ) ≡ false
   within δ e = ap (λ p. outside (steps (rowsOf words)) (pos p +ℤ δ)) (sym here) ∙ ap (outside (steps (rowsOf words))) e ∙ le-ltb (steps (rowsOf words)) to reached
@@ -165,30 +177,37 @@ module _ (words : List ℕ) (a b : ℕ) (start : Start words a b) (room : List �
   unfolding changes
   changes-are δ e = ap (λ l. flatMap (changeRow (rowsOf words) l) (frames (tableOf words))) (lands δ e)
 
-  module _ (need : ℕ) (size : need ≡ length (placesText (tableOf words) a b)) where
-    counts : (δ : ℤ) → pos from +ℤ δ ≡ pos to → need ≡ length (changes (tableOf words) δ)
+  module _ (count : ℕ) (size : 4 * count ≡ length (placesText (tableOf words) a b)) (room : ℕ) where
+    counts : (δ : ℤ) → pos from +ℤ δ ≡ pos to → 4 * count ≡ length (changes (tableOf words) δ)
     counts δ e = size ∙ text-counted (tableOf words) a b (start .flags) ∙ ap length (sym (changes-are δ e))
 
-    -- The room is counted in a part of it that holds no word.
-    module _ (lent : List ℕ) (kept : lent ≡ room) where
-      pub travel-short : length lent < need → Travels words room from to (traversedIs (Refused ShortBuffer)) words lent
-      unfolding refusals Given
-      travel-short l δ e =
-          let x = start .examined in
-          let n = counts δ e in
-          let m : length room < length (changes (tableOf words) δ) = omega (arith, ap length kept) in
-          outcome-refused (Call.Traverse words δ room) 9 (inr (x .long, inr (rw (x .passes) refl, inr (within δ e, inl (lt-ltb _ _ m, refl)))))
-          ∙ rw kept refl
+    pub travel-short : room < count → Travels words room from to (Stayed ShortBuffer) words
+    unfolding refusals Given
+    travel-short l δ e =
+        stays words δ room ShortBuffer (λ lent r.
+        let x = start .examined in
+        let n = counts δ e in
+        let m : length lent < length (changes (tableOf words) δ) = omega arith in
+        outcome-refused (Call.Traverse words δ lent) 9 (inr (x .long, inr (rw (x .passes) refl, inr (within δ e, inl (lt-ltb _ _ m, refl))))))
 
-      pub travel-done : (words' room' : List ℕ) → need ≤ length lent → words' ≡ written words (movedTo (tableOf words) b) → room' ≡ put lent 0 (changesTo (tableOf words) b) →
-          Travels words room from to (traversedIs (Changes (need / 4))) words' room'
-      unfolding refusals NoneGiven accepted
-      travel-done words' room' l u v δ e =
-          let x = start .examined in
-          let n = counts δ e in
-          let m : length (changes (tableOf words) δ) ≤ length room = omega (arith, ap length kept) in
-          outcome-accepted (Call.Traverse words δ room) (x .long, (rw (x .passes) refl, (within δ e, (le-ltb _ _ m, tt))))
-          ∙ rw (u, v, kept, n, changes-are δ e, lands δ e) refl
+    pub travel-done : (words' : List ℕ) → count ≤ room → words' ≡ written words (movedTo (tableOf words) b) →
+        Travels words room from to (Went (record { before = record { 0 = a }; after = record { 0 = b }; count = count })) words'
+    unfolding refusals NoneGiven accepted
+    travel-done words' l u δ e =
+        let x = start .examined in
+        let n = counts δ e in
+        let text = moved-text words a b start words' u in
+        let size' = size ∙ text-counted (tableOf words) a b (start .flags) ∙ ap length (sym text) in
+        record {
+          outcome-is = λ lent r.
+              let m : length (changes (tableOf words) δ) ≤ length lent = omega arith in
+              let k : length (changes (tableOf words) δ) / 4 ≡ count = omega arith in
+              outcome-accepted (Call.Traverse words δ lent) (x .long, (rw (x .passes) refl, (within δ e, (le-ltb _ _ m, tt))))
+              ∙ rw (k, text, u, changes-are δ e, lands δ e) refl;
+          sized = size';
+          fits = l;
+          arrived = moved-ready words a b start words' u;
+        }
 
 -- Where an amount leads.
 pub goal-to : (s : ℕ) (z : ℤ) (r : Goal) (q : ℕ) → r ≡ goalOf s z → r ≡ To q → (z ≡ pos q) × (q ≤ s)
@@ -203,19 +222,32 @@ goal-outside s (pos k) r e f =
     test (ltb s k) (λ t. t) (λ t. let g : To k ≡ Outside = rw t at (sym e ∙ f) in absurd (let z : _≡_ {A = ℕ} 0 1 = cc in omega arith))
 goal-outside s (negsuc k) r e f = refl
 
-pub beyond-way : (words room : List ℕ) (δ : ℤ) (p s : ℕ) → Examined words → p ≡ position (rowsOf words) → s ≡ steps (rowsOf words) → So (outside s (pos p +ℤ δ)) →
-    outcome (Call.Traverse words δ room) ≡ record { answer = traversedIs (Refused Beyond); lent = words ∷ room ∷ [] }
+pub beyond-way : (words : List ℕ) (room : ℕ) (δ : ℤ) (p s : ℕ) → Examined words → p ≡ position (rowsOf words) → s ≡ steps (rowsOf words) → So (outside s (pos p +ℤ δ)) → Shifts words δ room (Stayed Beyond) words
 unfolding refusals Given
 beyond-way words room δ p s x e f h =
     let g : So (outside (steps (rowsOf words)) (pos (position (rowsOf words)) +ℤ δ)) = rw (e, f) at h in
-    outcome-refused (Call.Traverse words δ room) 6 (inr (x .long, inr (rw (x .passes) refl, inl (g, refl))))
+    stays words δ room Beyond (λ lent r. outcome-refused (Call.Traverse words δ lent) 6 (inr (x .long, inr (rw (x .passes) refl, inl (g, refl)))))
 
 -- An amount as it is handed on.
-pub by-amount : (words room : List ℕ) (o : Outcome) (z δ : ℤ) → z ≡ δ → outcome (Call.Traverse words z room) ≡ o → outcome (Call.Traverse words δ room) ≡ o
-by-amount words room o z δ e h = subst (λ d. outcome (Call.Traverse words d room) ≡ o) e h
+pub by-amount : (words words' : List ℕ) (room : ℕ) (s : Shifted) (z δ : ℤ) → z ≡ δ → Shifts words z room s words' → Shifts words δ room s words'
+by-amount words words' room s z δ e h = subst (λ d. Shifts words d room s words') e h
 
 -- Refused by the first two rungs.
-pub check-way : (words room : List ℕ) (δ : ℤ) (k : Check) (r : Refusal) → k ≡ checkOf words → k ≡ No r →
-    outcome (Call.Traverse words δ room) ≡ record { answer = traversedIs (Refused r); lent = words ∷ room ∷ [] }
+pub check-way : (words : List ℕ) (room : ℕ) (δ : ℤ) (k : Check) (r : Refusal) → k ≡ checkOf words → k ≡ No r → Shifts words δ room (Stayed r) words
 unfolding refusals
-check-way words room δ k r e f = outcome-refused (Call.Traverse words δ room) _ (check-given words _ k r e f)
+check-way words room δ k r e f = stays words δ room r (λ lent z. outcome-refused (Call.Traverse words δ lent) _ (check-given words _ k r e f))
+
+-- Whoever writes the change rows of a shift.
+pub went-ready : (words words' : List ℕ) (δ : ℤ) (room : ℕ) (s : Shifted) → Shifts words δ room s words' → (t : Trip) → s ≡ Went t → Ready words' (t .before .0) (t .after .0)
+went-ready words words' δ room s h t e = subst (Arrived words') e (h .arrived)
+
+module _ (words words' : List ℕ) (δ : ℤ) (s : Shifted) (lent : List ℕ) where
+  pub went-way : (lent' : List ℕ) → Shifts words δ (length lent / 4) s words' → (t : Trip) → s ≡ Went t → lent' ≡ put lent 0 (tripText words' t) →
+      outcome (Call.Traverse words δ lent) ≡ record { answer = traversedIs (Changes (t .count)); lent = words' ∷ lent' ∷ [] }
+  went-way lent' h t e w = h .outcome-is lent refl ∙ rw (e, w) refl
+
+  pub stayed-way : Shifts words δ (length lent / 4) s words' → (r : Refusal) → s ≡ Stayed r →
+      outcome (Call.Traverse words δ lent) ≡ record { answer = traversedIs (Refused r); lent = words' ∷ lent ∷ [] }
+  stayed-way h r e =
+      h .outcome-is lent refl
+      ∙ rw e (ap (λ z. record { answer = traversedIs (Refused r); lent = words' ∷ z ∷ [] }) (ap (put lent 0) (no-text (tableOf words') 0) ∙ sym (put-none lent 0)))

@@ -1,0 +1,158 @@
+-- Change rows as plain words: one row set, and the rows one by one. Assumes nothing.
+use Prim.Native.Nat.{ℕ, zero, suc, _+_, _*_, _/_, _≤_, _<_, _^_}
+use mathlib.Core.Bool.{Bool, true, false}
+use mathlib.Core.List.{List, [], _∷_, _++_}
+use mathlib.Core.Path.{_≡_, refl, sym, ap, subst, _∙_}
+use native.Mathlib.Nat.{le-antisymm}
+use native.Mathlib.Omega.{arith}
+use lib.IntN.{ℤ}
+use lib.ListN.{length, set, length-set, length-append}
+use mir.Val.{boolByte}
+use Rattle.base.specs.declared.DocNo.{DocNo}
+use Rattle.rules.specs.Rows.{none, docAt, flag}
+use Rattle.rules.specs.Steps.{visibleAt}
+use Rattle.rules.specs.Words.{put, tableOf, rowsOf}
+use Rattle.rules.specs.Calls.{Call, outcome}
+use Rattle.laws.proofs.Tests.{by-lt}
+use Rattle.laws.proofs.Writes.{put-none, put-put, put-four}
+use Rattle.traverses.specs.declared.Change.{Change}
+use Rattle.traverses.specs.declared.Trip.{Trip}
+use Rattle.traverses.specs.declared.Traversed.{Traversed}
+use Rattle.traverses.specs.declared.Shifted.{Shifted}
+use Rattle.traverses.specs.declared.Shifted.the-variants.{Went, Stayed}
+use Rattle.traverses.specs.Answers.{traversedIs, answerOf, tripOf, tripText, Arrived, Shifts}
+use Rattle.traverses.specs.Texts.{textBelow, NextChange, Ready}
+use Rattle.traverses.proofs.Texts.{text-none, text-whole}
+use Rattle.changes.specs.declared.ChangeRow.{ChangeRow}
+use Rattle.changes.specs.Changes.{rowText, plain, tripBelow, Awaits, Follows, Fits}
+
+-- ROWS AND WORDS
+
+pub length-plain : (rows : List ChangeRow) → length (plain rows) ≡ 4 * length rows
+unfolding plain
+length-plain [] = refl
+length-plain (r ∷ rows) = omega (arith, length-plain rows)
+
+-- A row set is its four words put.
+set-four : (rows : List ChangeRow) (i : ℕ) (r : ChangeRow) →
+    plain (set rows i r) ≡ set (set (set (set (plain rows) (4 * i) (r .frame .0)) (4 * i + 1) (r .before .0)) (4 * i + 2) (r .after .0)) (4 * i + 3) (r .load)
+unfolding plain
+set-four [] i r = refl
+set-four (x ∷ rows) zero r = refl
+set-four (x ∷ rows) (suc i) r =
+    let a : 4 * suc i ≡ suc (suc (suc (suc (4 * i)))) = omega arith in
+    let b : 4 * suc i + 1 ≡ suc (suc (suc (suc (4 * i + 1)))) = omega arith in
+    let c : 4 * suc i + 2 ≡ suc (suc (suc (suc (4 * i + 2)))) = omega arith in
+    let d : 4 * suc i + 3 ≡ suc (suc (suc (suc (4 * i + 3)))) = omega arith in
+    ap (λ l. x .frame .0 ∷ x .before .0 ∷ x .after .0 ∷ x .load ∷ l) (set-four rows i r) ∙ rw (d, c, b, a) refl
+
+pub plain-set : (rows : List ChangeRow) (i : ℕ) (r : ChangeRow) → plain (set rows i r) ≡ put (plain rows) (4 * i) (rowText r)
+plain-set rows i r = set-four rows i r ∙ put-four (plain rows) (4 * i) (r .frame .0) (r .before .0) (r .after .0) (r .load)
+
+-- Rows with the same words are the same.
+pub plain-same : (rows rows' : List ChangeRow) → plain rows ≡ plain rows' → rows ≡ rows'
+unfolding plain
+plain-same [] [] e = refl
+plain-same [] (r ∷ rows') e = absurd (let z : _≡_ {A = ℕ} 0 1 = cc in omega arith)
+plain-same (r ∷ rows) [] e = absurd (let z : _≡_ {A = ℕ} 0 1 = cc in omega arith)
+plain-same (r ∷ rows) (s ∷ rows') e =
+    let a : r .frame .0 ≡ s .frame .0 = cc in
+    let b : r .before .0 ≡ s .before .0 = cc in
+    let c : r .after .0 ≡ s .after .0 = cc in
+    let d : r .load ≡ s .load = cc in
+    let f : plain rows ≡ plain rows' = cc in
+    ap (λ l. r ∷ l) (plain-same rows rows' f)
+    ∙ ap (λ n. record { frame = record { 0 = n }; before = r .before; after = r .after; load = r .load } ∷ rows') a
+    ∙ ap (λ n. record { frame = s .frame; before = record { 0 = n }; after = r .after; load = r .load } ∷ rows') b
+    ∙ ap (λ n. record { frame = s .frame; before = s .before; after = record { 0 = n }; load = r .load } ∷ rows') c
+    ∙ ap (λ n. record { frame = s .frame; before = s .before; after = s .after; load = n } ∷ rows') d
+
+-- THE NEXT ROW
+
+module _ (words : List ℕ) (trip : Trip) (from : ℕ) (h : Awaits words trip from) (c : Change) (n : NextChange (tableOf words) (trip .before .0) (trip .after .0) from c) where
+  -- There is one.
+  pub row-found : c .frame .0 < tableOf words .nextFrame
+  row-found = by-lt (c .frame .0) (tableOf words .nextFrame) (λ l. l) (λ l. let e = ap length (n .last l) in let s = h .some in absurd (omega arith))
+
+  pub row-places : (c .old .0 < length (rowsOf words)) × (c .new .0 < length (rowsOf words))
+  row-places = (n .first row-found, n .second row-found)
+
+  pub row-follows : (b a : DocNo) (v : Bool) → b .0 ≡ docAt (rowsOf words) (c .old .0) → a .0 ≡ docAt (rowsOf words) (c .new .0) → v ≡ visibleAt (rowsOf words) (c .new .0) → c .frame .0 < none →
+      Follows words trip from (record { frame = c .frame; before = b; after = a; load = boolByte v })
+  row-follows b a v e f g l =
+      record {
+        below = row-found;
+        small = l;
+        more = n .more row-found ∙ rw (e, f, g, byte (visibleAt (rowsOf words) (c .new .0))) refl;
+      }
+    where
+      byte : (w : Bool) → boolByte w ≡ flag w
+      byte true = refl
+      byte false = refl
+
+-- THE LOOP
+
+-- i rows are filled, with the trip's change rows of the frames numbered below f.
+pub record Filled (words : List ℕ) (trip : Trip) (old new : List ChangeRow) (i f : ℕ) : Type 0 where
+  pub upto : i ≤ trip .count
+  pub within : f ≤ tableOf words .nextFrame
+  pub size : 4 * i ≡ length (tripBelow words trip f)
+  pub same-length : length new ≡ length old
+  pub filled : plain new ≡ put (plain old) 0 (tripBelow words trip f)
+
+-- The loop's turns: how many rows are filled, the frame number to go on from, and the rows as they are then.
+pub record Turn (words : List ℕ) (trip : Trip) (old : List ChangeRow) : Type 0 where
+  pub at : ℕ
+  pub from : ℕ
+  pub rows : List ChangeRow
+  pub filled : Filled words trip old rows at from
+  pub fits : from < 2 ^ 32
+
+module _ (words : List ℕ) (trip : Trip) (old : List ChangeRow) (h : Fits words trip (length old)) where
+  pub filled-starts : Filled words trip old old 0 0
+  filled-starts =
+      let e = text-none (rowsOf words) (trip .before .0) (trip .after .0) in
+      record { upto = omega arith; within = omega arith; size = ap length (sym e); same-length = refl; filled = put-none (plain old) 0 ∙ ap (put (plain old) 0) (sym e) }
+
+  module _ (new : List ChangeRow) (i f : ℕ) (s : Filled words trip old new i f) where
+    pub filled-awaits : i < trip .count → Awaits words trip f
+    filled-awaits l = let z = h .sized in let y = s .size in record { ready = h .ready (omega arith); upto = s .within; some = omega arith }
+
+    pub filled-more : (r : ChangeRow) → i < trip .count → Follows words trip f r → (g : ℕ) → g ≡ r .frame .0 + 1 → Filled words trip old (set new i r) (i + 1) g
+    filled-more r l x g e =
+        let z = s .size in
+        let b = x .below in
+        let t : tripBelow words trip g ≡ tripBelow words trip f ++ rowText r = ap (tripBelow words trip) e ∙ x .more in
+        let j : 4 * i ≡ 0 + length (tripBelow words trip f) = omega arith in
+        record {
+          upto = omega arith;
+          within = omega arith;
+          size = omega (arith, ap length t, length-append (tripBelow words trip f) (rowText r));
+          same-length = length-set new i r ∙ s .same-length;
+          filled = plain-set new i r ∙ ap (λ l. put l (4 * i) (rowText r)) (s .filled) ∙ ap (λ k. put (put (plain old) 0 (tripBelow words trip f)) k (rowText r)) j
+              ∙ put-put (tripBelow words trip f) (rowText r) (plain old) 0 ∙ ap (put (plain old) 0) (sym t);
+        }
+
+    pub filled-ends : trip .count ≤ i → plain new ≡ put (plain old) 0 (tripText words trip)
+    filled-ends l =
+        let z = h .sized in
+        let y = s .size in
+        let u = s .upto in
+        s .filled ∙ ap (put (plain old) 0) (text-whole (rowsOf words) (trip .before .0) (trip .after .0) (tableOf words .nextFrame) f (s .within) (omega arith))
+
+-- THE CALLER
+
+went-far : (words : List ℕ) (s : Shifted) → Arrived words s → 0 < tripOf s .count → Ready words (tripOf s .before .0) (tripOf s .after .0)
+went-far words (Went t) a l = a
+went-far words (Stayed r) a l = absurd (omega arith)
+
+module _ (words words' : List ℕ) (δ : ℤ) (rows : List ChangeRow) (s : Shifted) (h : Shifts words δ (length rows) s words') where
+  pub shift-fits : Fits words' (tripOf s) (length rows)
+  shift-fits = record { fits = h .fits; sized = h .sized; ready = went-far words' s (h .arrived) }
+
+  pub traverse-way : (rows' : List ChangeRow) (r : Traversed) → r ≡ answerOf s → plain rows' ≡ put (plain rows) 0 (tripText words' (tripOf s)) →
+      outcome (Call.Traverse words δ (plain rows)) ≡ record { answer = traversedIs r; lent = words' ∷ plain rows' ∷ [] }
+  traverse-way rows' r e f =
+      let l = length-plain rows in
+      let k : length (plain rows) / 4 ≡ length rows = omega arith in
+      h .outcome-is (plain rows) k ∙ rw (f, e) refl

@@ -1,0 +1,4 @@
+pub mod Again
+pub mod Shared
+pub mod Filling
+pub mod Rows
