@@ -2,8 +2,7 @@
 use Prim.Native.Nat.{ℕ, zero, suc, _+_, _*_, _/_, _≤_, _<_, _^_}
 use mathlib.Core.Bool.{Bool, true, false}
 use mathlib.Core.List.{List, [], _∷_, _++_}
-use mathlib.Core.Path.{_≡_, refl, sym, ap, subst, _∙_}
-use native.Mathlib.Nat.{le-antisymm}
+use mathlib.Core.Path.{_≡_, refl, sym, ap, _∙_}
 use native.Mathlib.Omega.{arith}
 use lib.IntN.{ℤ}
 use lib.ListN.{length, set, length-set, length-append}
@@ -21,7 +20,7 @@ use Rattle.traverses.specs.declared.Traversed.{Traversed}
 use Rattle.traverses.specs.declared.Shifted.{Shifted}
 use Rattle.traverses.specs.declared.Shifted.the-variants.{Went, Stayed}
 use Rattle.traverses.specs.Answers.{traversedIs, answerOf, tripOf, tripText, Arrived, Shifts}
-use Rattle.traverses.specs.Texts.{textBelow, NextChange, Ready}
+use Rattle.traverses.specs.Texts.{NextChange, Ready}
 use Rattle.traverses.proofs.Texts.{text-none, text-whole}
 use Rattle.changes.specs.declared.ChangeRow.{ChangeRow}
 use Rattle.changes.specs.Changes.{rowText, plain, tripBelow, Awaits, Follows, Fits}

@@ -1,7 +1,7 @@
 -- What Traverse answers, by the ways that it goes. Assumes nothing.
-use Prim.Native.Nat.{ℕ, suc, _+_, _*_, _/_, _≤_, _<_}
-use mathlib.Core.Bool.{false, So, cond}
-use mathlib.Core.List.{List, [], _∷_, _++_, flatMap}
+use Prim.Native.Nat.{ℕ, _+_, _*_, _/_, _≤_, _<_}
+use mathlib.Core.Bool.{false, So}
+use mathlib.Core.List.{List, [], _∷_, flatMap}
 use mathlib.Core.Logic.{inl, inr}
 use mathlib.Core.Path.{_≡_, refl, sym, ap, subst, subst₂, _∙_, fun-ext}
 use native.Mathlib.Omega.{arith}
@@ -14,7 +14,7 @@ use Rattle.base.specs.declared.Refusal.the-variants.{ShortBuffer, Beyond}
 use Rattle.rules.specs.Below.{someBelow, count, rising}
 use Rattle.rules.specs.Rows.{Row, Table, docAt, isFrame}
 use Rattle.rules.specs.Steps.{step, position, steps}
-use Rattle.rules.specs.Moves.{walked, traversed, frames, shownDoc, changeRow, changes}
+use Rattle.rules.specs.Moves.{walked, frames, shownDoc, changeRow, changes}
 use Rattle.rules.specs.Words.{put, tableOf, rowsOf, written}
 use Rattle.rules.specs.Calls.{Call, Outcome, outside, refusals, accepted, outcome, Given, NoneGiven}
 use Rattle.laws.proofs.Tests.{test}

@@ -19,6 +19,11 @@ pub record StepAt (rows : List Row) (m r : ℕ) : Type 0 where
   pub counted : stepsTo rows r ≡ m
   pub is-step : m < steps rows → (r < length rows) × So (isStep rows r)
 
+-- m steps come before place r.
+pub record PlaceOf (rows : List Row) (m r : ℕ) : Type 0 where
+  pub upto : r ≤ length rows
+  pub counted : stepsTo rows r ≡ m
+
 -- Row i is what frame f shows at the position of place r.
 pub record Stands (rows : List Row) (f r i : ℕ) : Type 0 where
   pub inside : i < length rows

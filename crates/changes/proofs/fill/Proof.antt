@@ -1,8 +1,8 @@
 -- `changes::fill` meets its contract: a walk of its MIR, by hand. The borrow of the rows is opened once, before the loop, and closed once, after it. A turn calls `next_row` and `past`, of which it knows the contracts alone, takes one
 -- element out of the row of elements, stores the struct there and puts it back.
 -- Assumes nothing.
-use mathlib.Core.Path.{_≡_, refl, sym, ap, subst, _∙_}
-use Prim.Native.Nat.{ℕ, _+_, _-_, _*_, _≤_, _<_, _^_}
+use mathlib.Core.Path.{_≡_, refl, sym, ap, subst}
+use Prim.Native.Nat.{ℕ, _+_, _-_, _*_, _<_, _^_}
 use native.Mathlib.Numerals.{add-one-dec}
 use native.Mathlib.Omega.{arith}
 use mathlib.Core.WellFounded.{WellFounded, InvImage·wf}
@@ -29,7 +29,7 @@ use types.Part.{whole, sub, look-in, agg}
 use types.Run.{look, init, store, store-raw, forget, stop, hop, fld, from, load, lit, unit-lit, of-opd, bin, and-then, no-more, assigns, assigns-last, land, first, blocks, stays, leaves-loop, returns, enter, alloc1, alloc0, params1, pass1, pass0, free1, free0, exec, Below, again, loops}
 use sound.WpLaws.{FmC, fmOf, WpFn-mono}
 use denote.RattleType.{RattleType, owns}
-use denote.Shadow.{pureI, pureL}
+use denote.Shadow.{pureI}
 use denote.Laws.{Is, shows}
 use denote.Memory.{pointee}
 use denote.Builtin.{u32}
@@ -58,7 +58,7 @@ use Rattle.traverses.proofs.Trip as P
 use Rattle.traverses.proofs.Trip.Laws as P′
 use Rattle.changes.specs.Changes.{plain, Awaits, Follows, Fits}
 use Rattle.changes.specs.declared.ChangeRow.{ChangeRow}
-use Rattle.changes.proofs.Filling.{Filled, Turn, filled-starts, filled-awaits, filled-more, filled-ends}
+use Rattle.changes.proofs.Filling.{Turn, filled-starts, filled-awaits, filled-more, filled-ends}
 use Rattle.changes.proofs.ChangeRow as T
 use Rattle.changes.proofs.ChangeRow.Laws as T′
 use Rattle.changes.proofs.next_row as next-row

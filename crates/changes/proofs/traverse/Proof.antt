@@ -1,6 +1,6 @@
 -- `changes::traverse` meets its contract: a walk of its MIR, by hand. The words are lent again to `shift`, and come back; then they are lent shared to `fill`, beside the rows, which are given up.
 -- Assumes nothing.
-use mathlib.Core.Path.{_≡_, refl, sym, ap, subst, _∙_}
+use mathlib.Core.Path.{_≡_, refl, sym, subst}
 use Prim.Native.Nat.{ℕ, _<_, _^_}
 use mathlib.Core.List.{List, [], _∷_}
 use lib.IntN.{ℤ}
