@@ -229,8 +229,11 @@ beyond-way words room δ p s x e f h =
     stays words δ room Beyond (λ lent r. outcome-refused (Call.Traverse words δ lent) 6 (inr (x .long, inr (rw (x .passes) refl, inl (g, refl)))))
 
 -- An amount as it is handed on.
-pub by-amount : (words words' : List ℕ) (room : ℕ) (s : Shifted) (z δ : ℤ) → z ≡ δ → Shifts words z room s words' → Shifts words δ room s words'
-by-amount words words' room s z δ e h = subst (λ d. Shifts words d room s words') e h
+pub by-amount : (words room : List ℕ) (o : Outcome) (z δ : ℤ) → z ≡ δ → outcome (Call.Traverse words z room) ≡ o → outcome (Call.Traverse words δ room) ≡ o
+by-amount words room o z δ e h = subst (λ d. outcome (Call.Traverse words d room) ≡ o) e h
+
+pub shift-by : (words words' : List ℕ) (room : ℕ) (s : Shifted) (z δ : ℤ) → z ≡ δ → Shifts words z room s words' → Shifts words δ room s words'
+shift-by words words' room s z δ e h = subst (λ d. Shifts words d room s words') e h
 
 -- Refused by the first two rungs.
 pub check-way : (words : List ℕ) (room : ℕ) (δ : ℤ) (k : Check) (r : Refusal) → k ≡ checkOf words → k ≡ No r → Shifts words δ room (Stayed r) words
