@@ -6,7 +6,7 @@ use mathlib.Core.Path.{_≡_, refl, sym, ap, subst, _∙_}
 use native.Mathlib.Nat.{not-suc-le-zero, le-antisymm}
 use native.Mathlib.Numerals.{add-one}
 use native.Mathlib.Omega.{arith}
-use mir.Syntax.{w64}
+use mir.Syntax.{Width}
 use mir.Val.{Fits, boolByte}
 use borrow.Author.Needs.{needs}
 use borrow.Author.Tests.{not-true, not-false, lt-ltb, le-ltb, le-leb, lt-leb, eq-eqb, ne-eqb}
@@ -99,7 +99,7 @@ pub count-within : (i k : ℕ) (b : Bool) → k ≤ i → k + boolByte b ≤ i +
 count-within i k true l = omega arith
 count-within i k false l = omega arith
 
-pub count-fits : (n i k : ℕ) (b : Bool) → k ≤ i → i < n → Fits w64 n → Fits w64 (k + boolByte b)
+pub count-fits : {w : Width} (n i k : ℕ) (b : Bool) → k ≤ i → i < n → Fits w n → Fits w (k + boolByte b)
 count-fits n i k b l m f = record { fits = omega (arith, count-within i k b l) }
 
 pub ruleset loops = (
