@@ -22,7 +22,7 @@ use Rattle.laws.proofs.Words.{rows-length}
 use Rattle.rows.specs.Found.{foundBelow}
 use Rattle.rows.specs.declared.Found.{Found}
 use Rattle.rows.specs.declared.Found.the-variants.{At, Nothing}
-use Rattle.laws.proofs.Tests.{test, clash, off, same-tests, or-false, some-in, some-out, all-in, all-out, count-yes, count-no}
+use Rattle.laws.proofs.Tests.{test, clash, off, same-tests, and-true, or-false, some-in, some-out, all-in, all-out, count-yes, count-no}
 use Rattle.rows.specs.Held.{Within}
 use Rattle.rows.specs.Tally.{Under}
 use Rattle.laws.proofs.Loops.{count-more}
@@ -79,16 +79,12 @@ some-grows : (p : ℕ → Bool) (i : ℕ) → someBelow i p ≡ true → someBel
 some-grows p i h = let k = some-out p i h in some-in p (i + 1) (omega arith) (k .2)
 
 module _ (rows : List Row) where
-  and-true : (b : Bool) → b ≡ (b && true)
-  and-true true = refl
-  and-true false = refl
-
   pub passed-start : (s u : ℕ) (high : FrameNo) (known : DocNo) → s ≡ shownAt rows 0 → shownAt rows 0 ≤ 1 → u ≡ parentAt rows 0 → high .0 ≡ frameAt rows 0 → known .0 ≡ docAt rows 0 →
       Passed rows 1 (record { fine = eqb u none; late = false; shown = s; frames = 1; high = high; known = known })
   unfolding someBelow allBelow count joined linked comes calm step
   passed-start s u high known a l b c d =
       record {
-        fine-is = rw b (and-true (eqb (parentAt rows 0) none));
+        fine-is = rw b (sym (and-true (eqb (parentAt rows 0) none)));
         late-is = refl;
         shown-are = a ∙ bit-is rows 0 l ∙ test (isShown rows 0) (λ t. rw t refl) (λ t. rw t refl);
         frames-are = refl;
@@ -136,7 +132,7 @@ module _ (rows : List Row) where
         let b = r .few-frames in
         let z = o .bit in
         record {
-          fine-is = fine-more v (rw (n, ne-eqb i 0 (λ z. omega arith), ← f) (and-true v));
+          fine-is = fine-more v (rw (n, ne-eqb i 0 (λ z. omega arith), ← f) (sym (and-true v)));
           late-is = sym (or-false (p .late)) ∙ some-or (comes rows) i (p .late) false (r .late-is) (rw n refl);
           shown-are = shown-more s e;
           frames-are = rw (add-one i) (omega (arith, r .frames-are, count-yes (λ k. not (isStep rows k)) i (rw n refl)));
@@ -175,7 +171,7 @@ module _ (rows : List Row) where
     pass-stops i n p b s l e g f =
         test (plain rows top i)
         (λ t.
-        let z : allBelow i (joined rows) ≡ false = rw (← s .fine-is) (and-true (p .fine) ∙ rw (g, t) at f) in
+        let z : allBelow i (joined rows) ≡ false = rw (← s .fine-is) (sym (and-true (p .fine)) ∙ rw (g, t) at f) in
         rw (off (allBelow (length rows) (rowFine rows top)) (λ h. clash (all-in (joined rows) i (λ k m. (simp and-eq-true-iff at (all-out (rowFine rows top) (length rows) h k (omega arith))) .1)) z)) refl)
         (λ t. not-all i (omega arith) (rw t refl))
 
