@@ -64,7 +64,11 @@ pub fn climb(words: &[u32], at: RowPlace) -> bool
         return true;
     }
     match rows::find_below(words, at, up) {
-        Found::At(above) => climb(words, above),
+        Found::At(above) => {
+            // A part is two numbers; the words as they came would be a header that is copied at each call.
+            let len = words.len();
+            climb(&words[0..len], above)
+        }
         Found::Nothing => false,
     }
 }
