@@ -56,7 +56,7 @@ pub fn run(seed: u64, calls: u64, driver: &[String]) -> bool {
                     report(seed, done, request, wanted, &given);
                 }
             }
-            seen.note(request.call, wanted.refusal, &request.words);
+            seen.note(request, wanted.refusal);
             done += 1;
         }
     }

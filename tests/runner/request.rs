@@ -49,6 +49,11 @@ pub struct Reply {
 }
 
 impl Request {
+    /// Whether the driver lends the change rows as structs: it does so for every traverse with an odd guard word.
+    pub fn lends_structs(&self) -> bool {
+        self.call == Call::Traverse && self.guard % 2 == 1
+    }
+
     pub fn encode(&self, to: &mut Vec<u8>) {
         let counts = [self.words.len(), self.first.len(), self.second.len(), self.bytes.len()].map(|count| count as u32);
         let head = [[self.call as u32, self.number, self.lie, self.guard].as_slice(), &self.outs, &counts].concat();

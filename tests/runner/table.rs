@@ -1,5 +1,5 @@
 //! The table of document 01, "Nine ways to say no", and a count of what occurred of it.
-use crate::request::{Call, CALLS};
+use crate::request::{Call, Request, CALLS};
 use reference::sound::broken;
 use std::collections::BTreeMap;
 
@@ -24,16 +24,21 @@ pub fn allowed(call: Call, refusal: u32) -> bool {
 #[derive(Default)]
 pub struct Seen {
     pairs: BTreeMap<(Call, u32), u64>,
+    structs: BTreeMap<u32, u64>,
     clauses: BTreeMap<u8, u64>,
     differing: BTreeMap<Call, u64>,
 }
 
 impl Seen {
-    pub fn note(&mut self, call: Call, refusal: u32, words: &[u32]) {
+    pub fn note(&mut self, request: &Request, refusal: u32) {
+        let call = request.call;
         assert!(allowed(call, refusal), "the reference gives {refusal} for {call:?}, which the table does not have");
         *self.pairs.entry((call, refusal)).or_default() += 1;
+        if request.lends_structs() {
+            *self.structs.entry(refusal).or_default() += 1;
+        }
         if refusal == 2 {
-            if let [clause] = broken(words)[..] {
+            if let [clause] = broken(&request.words)[..] {
                 *self.clauses.entry(clause).or_default() += 1;
             }
         }
@@ -51,12 +56,17 @@ impl Seen {
         self.pairs.len()
     }
 
-    /// The pairs of the table and the clauses of soundness (each failing alone) that did not occur.
+    /// The pairs of the table, those of Traverse with change rows as structs, and the clauses of soundness (each failing alone) that did not occur.
     pub fn missing(&self) -> Vec<String> {
         let pairs = CALLS.iter().flat_map(|&call| (0..=9).map(move |refusal| (call, refusal)));
         let pairs = pairs.filter(|&(call, refusal)| allowed(call, refusal) && !self.pairs.contains_key(&(call, refusal)));
+        let structs = (0..=9).filter(|&refusal| allowed(Call::Traverse, refusal) && !self.structs.contains_key(&refusal));
         let clauses = (1..=8).filter(|clause| !self.clauses.contains_key(clause));
-        pairs.map(|(call, refusal)| format!("{call:?} giving {refusal}")).chain(clauses.map(|clause| format!("S{clause} failing alone"))).collect()
+        pairs
+            .map(|(call, refusal)| format!("{call:?} giving {refusal}"))
+            .chain(structs.map(|refusal| format!("Traverse with structs giving {refusal}")))
+            .chain(clauses.map(|clause| format!("S{clause} failing alone")))
+            .collect()
     }
 
     pub fn print(&self) {
@@ -65,6 +75,8 @@ impl Seen {
             let differing = self.differing.get(&call).map(|count| format!("  DIFFERENT: {count}")).unwrap_or_default();
             println!("  {:10} {}{differing}", format!("{call:?}"), counts.collect::<Vec<_>>().join("  "));
         }
+        let structs = self.structs.iter().map(|(refusal, count)| format!("{refusal}: {count}"));
+        println!("  {:10} {}", "structs", structs.collect::<Vec<_>>().join("  "));
         let clauses = self.clauses.iter().map(|(clause, count)| format!("S{clause}: {count}"));
         println!("  {:10} {}", "alone", clauses.collect::<Vec<_>>().join("  "));
     }
