@@ -5,7 +5,7 @@ use crate::face::{Face, OURS, TWIN};
 use std::hint::black_box;
 use std::time::Instant;
 
-const ROUNDS: usize = 60;
+const ROUNDS: usize = 20;
 const ROUND_NS: f64 = 200_000.0;
 
 /// The nanoseconds that each of so many turns takes.

@@ -1,4 +1,5 @@
 //! measure calls: every call of the library beside its twin's, as tables.
+//! measure times: the times of one run, which `calls` takes the least of.
 //! measure script LINES: a script to run.
 //! measure programs OURS TWIN SCRIPT LINES: both script programs on it, as a table.
 mod alike;
@@ -8,10 +9,13 @@ mod clock;
 mod face;
 mod script;
 mod shapes;
+use cases::Case;
 use shapes::{SHAPES, Shape, record};
 use std::io::{BufWriter, stdout};
+use std::process::Command;
 
 const ROWS: [usize; 3] = [3, 30, 512];
+const RUNS: usize = 8;
 
 /// The targets: for every ratio, and for the passes of the shape desk.
 const RATIO: f64 = 1.2;
@@ -27,17 +31,48 @@ fn marked(number: f64, digits: usize, target: f64) -> String {
     if text.parse::<f64>().is_ok_and(|shown| shown > target) { format!("**{text}**") } else { text }
 }
 
-/// The table of a shape.
-fn print_shape(shape: Shape) {
-    let pass = ROWS.map(|rows| clock::measure_pass(&record(shape, rows, rows)));
-    let sizes = ROWS.map(|rows| cases::cases(shape, rows));
+/// The cases of a shape, size by size.
+fn sizes(shape: Shape) -> [Vec<Case>; 3] {
+    ROWS.map(|rows| cases::cases(shape, rows))
+}
+
+/// The times of a shape, a number a line: one pass at each size; then call by call and size by size ours and the twin's.
+fn print_times(shape: Shape) {
+    ROWS.iter().for_each(|&rows| println!("{}", clock::measure_pass(&record(shape, rows, rows))));
+    let sizes = sizes(shape);
+    for line in 0..sizes[0].len() {
+        for size in &sizes {
+            let (ours, twin) = clock::measure(&size[line]);
+            println!("{ours}\n{twin}");
+        }
+    }
+}
+
+/// The least of each time over so many runs of this program: where a process happens to lie in memory moves its times.
+fn least_times() -> Vec<f64> {
+    let run = |_| {
+        let this = std::env::current_exe().expect("this program has a name");
+        let said = Command::new(this).arg("times").output().expect("this program can be run again");
+        assert!(said.status.success(), "a run that only takes times failed");
+        let text = String::from_utf8(said.stdout).expect("times are digits");
+        text.lines().map(|line| line.parse().expect("a time")).collect::<Vec<f64>>()
+    };
+    let least = |a: Vec<f64>, b: Vec<f64>| a.iter().zip(b).map(|(a, b)| a.min(b)).collect();
+    (0..RUNS).map(run).reduce(least).expect("one run or more")
+}
+
+/// The table of a shape, from times in the order in which they are printed.
+fn print_shape(shape: Shape, times: &mut impl Iterator<Item = f64>) {
+    let mut next = || times.next().expect("a time for each call");
+    let sizes = sizes(shape);
     sizes.iter().flatten().for_each(alike::check);
     sizes[..2].iter().flatten().for_each(alike::check_near);
+    let pass = ROWS.map(|_| next());
     let most_passes = if shape == Shape::Desk { PASSES } else { f64::MAX };
     println!("{HEAD}");
-    for line in 0..sizes[0].len() {
-        let [a, b, c] = [0, 1, 2].map(|size| clock::measure(&sizes[size][line]));
-        print!("| {} |", sizes[0][line].name);
+    for case in &sizes[0] {
+        let [a, b, c] = ROWS.map(|_| (next(), next()));
+        print!("| {} |", case.name);
         for (ours, twin) in [a, b, c] {
             print!(" {ours:.1} | {twin:.1} | {} |", marked(ours / twin, 2, RATIO));
         }
@@ -58,19 +93,21 @@ fn main() {
     let words: Vec<String> = std::env::args().skip(1).collect();
     match words.iter().map(String::as_str).collect::<Vec<_>>()[..] {
         ["calls"] => {
+            let mut times = least_times().into_iter();
             for (shape, name, what) in SHAPES {
                 println!("## {name}\n\n{what}.\n");
-                print_shape(shape);
+                print_shape(shape, &mut times);
                 println!();
             }
         }
+        ["times"] => SHAPES.iter().for_each(|&(shape, _, _)| print_times(shape)),
         ["script", lines] => {
             let lines = lines.parse().expect("a number of lines");
             script::write(lines, &mut BufWriter::new(stdout())).expect("standard output can be written");
         }
         ["programs", ours, twin, script, lines] => print_programs(ours, twin, script, lines.parse().expect("a number of lines")),
         _ => {
-            eprintln!("usage: measure calls | measure script LINES | measure programs OURS TWIN SCRIPT LINES");
+            eprintln!("usage: measure calls | measure times | measure script LINES | measure programs OURS TWIN SCRIPT LINES");
             std::process::exit(2);
         }
     }

@@ -1,65 +1,57 @@
 -- What each question answers, as an outcome. Assumes nothing.
 use Prim.Native.Nat.{ℕ, _-_, _≤_, _<_}
-use mathlib.Core.Bool.{Bool, true, false}
+use mathlib.Core.Bool.{true, false}
 use mathlib.Core.List.{List, [], _∷_}
 use mathlib.Core.Path.{_≡_, refl, sym, ap₂, _∙_}
-use native.Mathlib.Omega.{arith}
 use lib.IntN.{ℤ, pos, natAbs}
 use lib.ListN.{length, take}
 use lib.Signed.{ltZ}
-use borrow.Author.Needs.{needs}
 use borrow.Author.Tests.{lt-ltb, le-ltb}
 use Rattle.base.proofs.Signed.{by-sign, by-plus}
 use Rattle.base.specs.declared.Refusal.{Refusal}
 use Rattle.base.specs.Numbers.{numberOf}
-use Rattle.rules.specs.Rows.{inRecord, flag}
-use Rattle.rules.specs.Steps.{position, steps, visible}
+use Rattle.rules.specs.Steps.{position, steps}
 use Rattle.rules.specs.Words.{put, rowsOf}
 use Rattle.rules.specs.Asks.{takenList, upcomingList, ownList, stretched}
 use Rattle.rules.specs.Calls.{Call, Answer, refusals, accepted, ladder, outcome}
 use Rattle.laws.proofs.Calls.{outcome-refused}
-use Rattle.rows.specs.Held.{Before}
-use Rattle.rows.specs.Tally.{tallyOf}
-use Rattle.rows.specs.declared.Tally.{Tally}
-use Rattle.rows.proofs.Positions.{tallied-position, tallied-steps}
 use Rattle.sound.specs.Check.{checkOf, Examined}
 use Rattle.sound.specs.declared.Check.{Check}
 use Rattle.sound.specs.declared.Check.the-variants.{No}
 use Rattle.laws.proofs.Lists.{taken-length, upcoming-length}
-use Rattle.sound.proofs.Checks.{check-given, examined-long, examined-sound, examined-held}
+use Rattle.rows.specs.Holds.{heldRows}
+use Rattle.asks.specs.Answers.{sightIs, sightOf, SightIs}
+use Rattle.asks.specs.declared.Sight.{Sight}
+use Rattle.asks.specs.declared.Sight.the-variants.{Visible, Hidden, Refused}
+use Rattle.asks.proofs.Climbs.{seen-is}
+use Rattle.sound.specs.Survey.{surveyOf}
+use Rattle.sound.specs.declared.Stand.{Stand}
+use Rattle.sound.specs.declared.Survey.{Survey}
+use Rattle.sound.specs.declared.Survey.the-variants.{Stands, No as Survey·No}
+use Rattle.sound.proofs.Checks.{check-given, survey-given, survey-stands, examined-sound, examined-held}
 
-module _ (words : List ℕ) (k : Check) (r : Refusal) (e : k ≡ checkOf words) (f : k ≡ No r) where
-  pub position-refused : outcome (Call.Position words) ≡ record { answer = Answer.refuses (numberOf r); lent = [] }
+pub visible-refused : (words : List ℕ) (d : ℕ) (k : Check) (r : Refusal) → k ≡ checkOf words → k ≡ No r → outcome (Call.Visible words d) ≡ record { answer = Answer.refuses (numberOf r); lent = [] }
+unfolding refusals
+visible-refused words d k r e f = outcome-refused (Call.Visible words d) (numberOf r) (check-given words _ k r e f)
+
+module _ (words : List ℕ) (k : Survey) (e : k ≡ surveyOf words) where
+  pub position-refused : (r : Refusal) → k ≡ Survey·No r → outcome (Call.Position words) ≡ record { answer = Answer.refuses (numberOf r); lent = [] }
   unfolding refusals
-  position-refused = outcome-refused (Call.Position words) (numberOf r) (check-given words _ k r e f)
+  position-refused r f = outcome-refused (Call.Position words) (numberOf r) (survey-given words _ k r e f)
 
-  pub visible-refused : (d : ℕ) → outcome (Call.Visible words d) ≡ record { answer = Answer.refuses (numberOf r); lent = [] }
-  unfolding refusals
-  visible-refused d = outcome-refused (Call.Visible words d) (numberOf r) (check-given words _ k r e f)
-
--- A sound record's rows can be read.
-pub readable : (words : List ℕ) → Examined words → Before words 0 × (0 < length words)
-readable words e = let h = examined-held words e in let l = examined-long words e in (search needs, omega arith)
+  pub position-given : (s : Stand) → k ≡ Stands s → outcome (Call.Position words) ≡ record { answer = Answer.gives (s .position ∷ s .steps ∷ s .steps ∷ []); lent = [] }
+  unfolding outcome refusals accepted ladder
+  position-given s f = let h = survey-stands words k s e f in let x = h .0 in rw (x .long, x .passes, h .1) refl
 
 module _ (words : List ℕ) (e : Examined words) where
-  -- What the pass over the rows counted.
-  pub counted-position : (t : Tally) → t ≡ tallyOf (rowsOf words) (length (rowsOf words)) → t .position ≡ position (rowsOf words)
-  counted-position t h = let s = examined-sound words e .table in tallied-position (rowsOf words) (s .s6) (s .s7) t h
-
-  pub counted-steps : (t : Tally) → t ≡ tallyOf (rowsOf words) (length (rowsOf words)) → t .steps ≡ steps (rowsOf words)
-  counted-steps t h = tallied-steps (rowsOf words) t h
-
-  pub position-given : (p s : ℕ) → p ≡ position (rowsOf words) → s ≡ steps (rowsOf words) → outcome (Call.Position words) ≡ record { answer = Answer.gives (p ∷ s ∷ s ∷ []); lent = [] }
+  by-sight : (d : ℕ) (s : Sight) → SightIs (rowsOf words) d s → outcome (Call.Visible words d) ≡ record { answer = sightIs s; lent = [] }
   unfolding outcome refusals accepted ladder
-  position-given p s a b = rw (e .long, e .passes, a, b) refl
+  by-sight d Visible i = rw (e .long, e .passes, i .0, i .1) refl
+  by-sight d Hidden i = rw (e .long, e .passes, i .0, i .1) refl
+  by-sight d (Refused r) i = rw (e .long, e .passes, i .0, i .1) refl
 
-  pub visible-absent : (d : ℕ) → inRecord (rowsOf words) d ≡ false → outcome (Call.Visible words d) ≡ record { answer = Answer.refuses 4; lent = [] }
-  unfolding outcome refusals accepted ladder
-  visible-absent d a = rw (e .long, e .passes, a) refl
-
-  pub visible-given : (d : ℕ) (b : Bool) → inRecord (rowsOf words) d ≡ true → visible (rowsOf words) d ≡ b → outcome (Call.Visible words d) ≡ record { answer = Answer.gives (flag b ∷ []); lent = [] }
-  unfolding outcome refusals accepted ladder
-  visible-given d b a v = rw (e .long, e .passes, a, v) refl
+  pub visible-given : (d : ℕ) (s : Sight) → s ≡ sightOf (heldRows words) d → outcome (Call.Visible words d) ≡ record { answer = sightIs s; lent = [] }
+  visible-given d s h = by-sight d s (seen-is words d (examined-held words e) s h)
 
 -- STRETCH
 
@@ -89,10 +81,10 @@ module _ (takens upcomings : List ℕ) (δ : ℤ) where
 
 -- LISTS
 
-pub lists-refused : (words takens upcomings : List ℕ) (k : Check) (r : Refusal) → k ≡ checkOf words → k ≡ No r →
+pub lists-refused : (words takens upcomings : List ℕ) (k : Survey) (r : Refusal) → k ≡ surveyOf words → k ≡ Survey·No r →
     outcome (Call.Lists words takens upcomings) ≡ record { answer = Answer.refuses (numberOf r); lent = takens ∷ upcomings ∷ [] }
 unfolding refusals
-lists-refused words takens upcomings k r e f = outcome-refused (Call.Lists words takens upcomings) (numberOf r) (check-given words _ k r e f)
+lists-refused words takens upcomings k r e f = outcome-refused (Call.Lists words takens upcomings) (numberOf r) (survey-given words _ k r e f)
 
 module _ (words : List ℕ) (e : Examined words) (takens upcomings : List ℕ) (p s : ℕ) (here : p ≡ position (rowsOf words)) (all : s ≡ steps (rowsOf words)) where
   taken-count : length (takenList (rowsOf words)) ≡ p

@@ -1,21 +1,29 @@
 -- The climb, by the ways that it goes. Assumes nothing.
-use Prim.Native.Nat.{ℕ}
+use Prim.Native.Nat.{ℕ, _≤_, _<_}
 use mathlib.Core.Bool.{Bool, true, false}
 use mathlib.Core.List.{List}
-use mathlib.Core.Path.{_≡_, refl, sym, ap, _∙_}
+use mathlib.Core.Path.{_≡_, refl, sym, ap, subst, _∙_}
+use native.Mathlib.Omega.{arith}
 use lib.Dec.{eqb}
-use lib.ListN.{length}
+use lib.ListN.{length, List·getD-eq-default}
 use borrow.Author.Tests.{eq-eqb, ne-eqb, eqb-true}
 use Rattle.base.specs.declared.RowPlace.{RowPlace}
-use Rattle.rules.specs.Below.{latest}
-use Rattle.rules.specs.Rows.{Row, none, parentAt, isShown, isDoc, inRecord, climb}
+use Rattle.base.specs.declared.Refusal.the-variants.{Absent}
+use Rattle.rules.specs.Rows.{Row, noRow, none, parentAt, isShown, isDoc, inRecord, climb}
 use Rattle.rules.specs.Steps.{visibleAsk, visibleAt, visible}
-use Rattle.laws.proofs.Tests.{clash, some-in, some-out, greatest, latest-is}
+use Rattle.rules.specs.Words.{capacity, rowsOf}
+use Rattle.laws.proofs.Tests.{test, clash, some-in, some-out, greatest, latest-is}
 use Rattle.laws.proofs.Climb.{climb-none, climb-found}
-use Rattle.rows.specs.Found.{foundBelow}
-use Rattle.rows.specs.declared.Found.{Found}
-use Rattle.rows.specs.declared.Found.the-variants.{At, Nothing}
-use Rattle.rows.proofs.Scans.{found-at, found-nothing}
+use Rattle.held.specs.Found.{foundBelow}
+use Rattle.held.specs.declared.Found.{Found}
+use Rattle.held.specs.declared.Found.the-variants.{At, Nothing}
+use Rattle.held.specs.Held.{Within}
+use Rattle.held.proofs.Scans.{found-at, found-lower, found-nothing}
+use Rattle.rows.specs.Holds.{heldRows}
+use Rattle.rows.proofs.Holds.{held-rows, held-within}
+use Rattle.asks.specs.Answers.{sightOf, SightIs}
+use Rattle.asks.specs.declared.Sight.{Sight}
+use Rattle.asks.specs.declared.Sight.the-variants.{Visible, Hidden, Refused}
 
 -- Where the scan for a document ended, the question goes on.
 module _ {A : Type 0} (lost : A) (ask : (ℕ → A) → ℕ → A) (rows : List Row) (k d : ℕ) where
@@ -51,19 +59,48 @@ module _ (rows : List Row) (k : ℕ) (s : Bool) (shown : s ≡ isShown rows k) w
     pub lost-ends : (f : Found) → (up ≡ none → ⊥) → f ≡ foundBelow (isDoc rows up) k → f ≡ Nothing → false ≡ visibleAt rows k
     lost-ends f ne e g = sym (climb-lost false (visibleAsk rows) rows k up (sym e ∙ g)) ∙ goes-up ne
 
--- A document of the record, where the scan over all its rows ended.
-module _ (rows : List Row) (d n : ℕ) (f : Found) (all : n ≡ length rows) (scan : f ≡ foundBelow (isDoc rows d) n) where
-  scanned : f ≡ foundBelow (isDoc rows d) (length rows)
-  scanned = scan ∙ ap (foundBelow (isDoc rows d)) all
+-- Past the rows held, and among them.
+module _ (words : List ℕ) (n i : ℕ) (count : n ≡ length (heldRows words)) where
+  pub climb-past : n ≤ i → false ≡ visibleAt (heldRows words) i
+  climb-past l = hidden-ends (heldRows words) i false (sym (ap (λ r. eqb (r .shown) 1) (List·getD-eq-default (heldRows words) noRow (omega arith)))) refl
 
-  pub visible-at : (q : RowPlace) → f ≡ At q → visible rows d ≡ visibleAt rows (q .0)
-  unfolding visible visibleAt
-  visible-at q e = climb-at false (visibleAsk rows) rows (length rows) d q (sym scanned ∙ e)
+  pub climb-held : (r : Bool) → i < n → r ≡ visibleAt (rowsOf words) i → r ≡ visibleAt (heldRows words) i
+  climb-held r l e = e ∙ ap (λ rows. visibleAt rows i) (sym (held-rows words (held-within words i (omega arith) .held)))
 
-  pub record-has : (q : RowPlace) → f ≡ At q → inRecord rows d ≡ true
-  unfolding inRecord
-  record-has q e = found-at (isDoc rows d) (length rows) q (sym scanned ∙ e) .0
+-- A document, where the scan for it ended.
+module _ (words : List ℕ) (d : ℕ) (f : Found) (scan : f ≡ foundBelow (isDoc (heldRows words) d) (length (heldRows words))) where
+  pub seen-absent : f ≡ Nothing → Refused Absent ≡ sightOf (heldRows words) d
+  unfolding sightOf inRecord
+  seen-absent e = rw (found-nothing (isDoc (heldRows words) d) (length (heldRows words)) (sym scan ∙ e)) refl
 
-  pub record-lacks : f ≡ Nothing → inRecord rows d ≡ false
-  unfolding inRecord
-  record-lacks e = found-nothing (isDoc rows d) (length rows) (sym scanned ∙ e)
+  module _ (q : RowPlace) (e : f ≡ At q) where
+    pub found-within : Within words (q .0)
+    found-within = held-within words (q .0) (found-lower (isDoc (heldRows words) d) (length (heldRows words)) q (sym scan ∙ e))
+
+    here : inRecord (heldRows words) d ≡ true
+    unfolding inRecord
+    here = found-at (isDoc (heldRows words) d) (length (heldRows words)) q (sym scan ∙ e) .0
+
+    there : visible (heldRows words) d ≡ visibleAt (rowsOf words) (q .0)
+    unfolding visible visibleAt
+    there =
+        climb-at false (visibleAsk (heldRows words)) (heldRows words) (length (heldRows words)) d q (sym scan ∙ e)
+        ∙ ap (λ rows. visibleAt rows (q .0)) (held-rows words (found-within .held))
+
+    pub seen-visible : (b : Bool) → b ≡ visibleAt (rowsOf words) (q .0) → b ≡ true → Visible ≡ sightOf (heldRows words) d
+    unfolding sightOf
+    seen-visible b h t = rw (here, there ∙ sym h ∙ t) refl
+
+    pub seen-hidden : (b : Bool) → b ≡ visibleAt (rowsOf words) (q .0) → b ≡ false → Hidden ≡ sightOf (heldRows words) d
+    unfolding sightOf
+    seen-hidden b h t = rw (here, there ∙ sym h ∙ t) refl
+
+-- What is seen of a record whose rows are held.
+pub seen-is : (words : List ℕ) (d : ℕ) → length (rowsOf words) ≤ capacity words → (s : Sight) → s ≡ sightOf (heldRows words) d → SightIs (rowsOf words) d s
+unfolding sightOf
+seen-is words d l s e =
+    let rows = rowsOf words in
+    subst (SightIs rows d) (sym (e ∙ ap (λ rows. sightOf rows d) (held-rows words l)))
+    (test (inRecord rows d)
+    (λ h. test (visible rows d) (λ t. rw (h, t) (h, t)) (λ t. rw (h, t) (h, t)))
+    (λ h. rw h (h, refl)))

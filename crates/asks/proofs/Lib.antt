@@ -1,3 +1,4 @@
 pub mod Climbs
 pub mod Answered
+pub mod Judged
 pub mod Listing

@@ -1,17 +1,16 @@
 -- The two lists, filled row by row. Assumes nothing.
-use Prim.Native.Nat.{ℕ, suc, _+_, _-_, _≤_, _<_, min}
-use mathlib.Core.Bool.{Bool, true, false, not, _&&_, So}
+use Prim.Native.Nat.{ℕ, suc, _+_, _-_, _≤_, _<_}
+use mathlib.Core.Bool.{Bool, true, false, _&&_, So}
 use mathlib.Core.List.{List, [], _∷_, reverse, reverse-append}
 use mathlib.Core.Path.{_≡_, refl, sym, ap, ap₂, _∙_}
 use native.Mathlib.Nat.{le-antisymm}
 use native.Mathlib.Numerals.{add-one}
 use native.Mathlib.Omega.{arith}
-use lib.Dec.{ltb}
 use lib.ListN.{length, set}
 use borrow.Author.Tests.{ltb-true, lt-ltb, le-ltb}
 use Rattle.rules.specs.Below.{count, gather}
 use Rattle.rules.specs.Rows.{Row, docAt}
-use Rattle.rules.specs.Steps.{isStep, taken, upcoming, position, steps}
+use Rattle.rules.specs.Steps.{isStep, taken, upcoming, position}
 use Rattle.rules.specs.Words.{put}
 use Rattle.rules.specs.Sound.{S6, S7}
 use Rattle.rules.specs.Asks.{takenList, upcomingList}

@@ -1,6 +1,12 @@
 -- The paper's number and values for each case of an answer.
-use mathlib.Core.List.{[], _∷_}
+use Prim.Native.Nat.{ℕ}
+use mathlib.Core.Bool.{true, false, cond}
+use mathlib.Core.List.{List, [], _∷_}
+use mathlib.Core.Path.{_≡_}
+use Rattle.base.specs.declared.Refusal.the-variants.{Absent}
 use Rattle.base.specs.Numbers.{numberOf}
+use Rattle.rules.specs.Rows.{Row, inRecord}
+use Rattle.rules.specs.Steps.{visible}
 use Rattle.rules.specs.Calls.{Answer}
 use Rattle.asks.specs.declared.Standing.{Standing}
 use Rattle.asks.specs.declared.Standing.the-variants as Standings
@@ -19,6 +25,16 @@ abbrev pub sightIs : Sight → Answer
 sightIs Sights.Visible = Answer.gives (1 ∷ [])
 sightIs Sights.Hidden = Answer.gives (0 ∷ [])
 sightIs (Sights.Refused r) = Answer.refuses (numberOf r)
+
+-- Whether document d is among these rows, and whether it is visible.
+unfoldable pub sightOf : List Row → ℕ → Sight
+sightOf rows d = cond (inRecord rows d) (cond (visible rows d) Sights.Visible Sights.Hidden) (Sights.Refused Absent)
+
+-- What each case of it says.
+abbrev pub SightIs : List Row → ℕ → Sight → Type 0
+SightIs rows d Sights.Visible = (inRecord rows d ≡ true) × (visible rows d ≡ true)
+SightIs rows d Sights.Hidden = (inRecord rows d ≡ true) × (visible rows d ≡ false)
+SightIs rows d (Sights.Refused r) = (inRecord rows d ≡ false) × (r ≡ Absent)
 
 abbrev pub stretchIs : Stretched → Answer
 stretchIs (Stretches.Count n) = Answer.gives (n ∷ [])

@@ -3,20 +3,23 @@ use base::DocNo;
 use base::FrameNo;
 use base::Refusal;
 use base::RowPlace;
-use rows::Found;
-use rows::NONE;
+use held::Found;
+use held::NONE;
 use sound::Check;
+use sound::Stand;
+use sound::Survey;
 ghost use mathlib.Core.Path.{_≡_};
 ghost use mathlib.Core.List.{[], _∷_};
 ghost use Prim.Native.Nat.{_<_};
-ghost use lib.ListN.{length};
 ghost use Rattle.rules.specs.Steps.{visibleAt, position as positionOf};
 ghost use Rattle.rules.specs.Words.{put, rowsOf};
 ghost use Rattle.rules.specs.Asks.{takenList, upcomingList, ownList, stretched};
 ghost use Rattle.rules.specs.Calls.{Call, outcome};
-ghost use Rattle.rows.specs.Held.{Within};
+ghost use Rattle.held.specs.Held.{Within};
 ghost use Rattle.sound.specs.Check.{Examined};
-ghost use Rattle.asks.specs.Answers.{standingIs, sightIs, stretchIs, listedIs};
+ghost use Rattle.sound.specs.Survey.{Located};
+ghost use Rattle.rows.specs.Holds.{heldRows};
+ghost use Rattle.asks.specs.Answers.{standingIs, sightIs, sightOf, stretchIs, listedIs};
 ghost use Rattle.asks.specs.Listing.{takenWith, upcomingWith};
 
 // Where the window stands: position, steps, and the length for scripts.
@@ -29,19 +32,10 @@ pub enum Standing {
 pub fn position(words: &[u32]) -> Standing
     ensures { λ r. ⌜ outcome (Call.Position (now (words .entry))) ≡ record { answer = standingIs r; lent = [] } ⌝ }
 {
-    match sound::examine(words) {
-        Check::No(r) => Standing::Refused(r),
-        Check::Sound => stand(words),
+    match sound::locate(words) {
+        Survey::No(r) => Standing::Refused(r),
+        Survey::Stands(s) => Standing::At(s.position, s.steps, s.steps),
     }
-}
-
-// Position, steps and length of a sound record.
-fn stand(words: &[u32]) -> Standing
-    requires { ⌜ Examined (now words) ⌝ }
-    ensures { λ r. ⌜ outcome (Call.Position (now (words .entry))) ≡ record { answer = standingIs r; lent = [] } ⌝ }
-{
-    let t = rows::count_steps(words);
-    Standing::At(t.position, t.steps, t.steps)
 }
 
 // Whether a document can be seen.
@@ -52,37 +46,43 @@ pub enum Sight {
 }
 
 // Whether a row's document and every document above it are shown: once it is itself, the question goes to its parent.
-pub fn climb(words: &[u32], at: RowPlace) -> bool
-    requires { ⌜ Within (now words) (at .0) ⌝ }
-    ensures { λ r. ⌜ r ≡ visibleAt (rowsOf (now (words .entry))) (at .0) ⌝ }
+fn ascend(words: &&[u32], at: RowPlace) -> bool
+    requires { ⌜ Within (now (now words)) (at .0) ⌝ }
+    ensures { λ r. ⌜ r ≡ visibleAt (rowsOf (now (now (words .entry)))) (at .0) ⌝ }
 {
-    if !rows::is_shown(words, at) {
+    // The words come behind a second reference: a header that is copied at each call would keep the compiler from making a loop of it.
+    let here = *words;
+    if !held::is_shown(here, at) {
         return false;
     }
-    let up = rows::parent(words, at);
+    let up = held::parent(here, at);
     if up.0 == NONE {
         return true;
     }
-    match rows::find_below(words, at, up) {
-        Found::At(above) => {
-            // A part is two numbers; the words as they came would be a header that is copied at each call.
-            let len = words.len();
-            climb(&words[0..len], above)
-        }
+    match held::find_below(here, at, up) {
+        Found::At(above) => ascend(words, above),
         Found::Nothing => false,
     }
 }
 
-// Whether a document of a sound record is visible.
-fn seen(words: &[u32], d: DocNo) -> Sight
-    requires { ⌜ Examined (now words) ⌝ }
-    ensures { λ r. ⌜ outcome (Call.Visible (now (words .entry)) (d .0)) ≡ record { answer = sightIs r; lent = [] } ⌝ }
+// The same of any place: past the rows that the words hold there is nothing to see.
+pub fn climb(words: &[u32], at: RowPlace) -> bool
+    ensures { λ r. ⌜ r ≡ visibleAt (heldRows (now (words .entry))) (at .0) ⌝ }
 {
-    let n = rows::row_count(words);
-    match rows::find_below(words, RowPlace(n), d) {
+    if rows::held_count(words) <= at.0 {
+        return false;
+    }
+    ascend(&words, at)
+}
+
+// Whether a document is there, and whether it is visible.
+pub fn seen(words: &[u32], d: DocNo) -> Sight
+    ensures { λ r. ⌜ r ≡ sightOf (heldRows (now (words .entry))) (d .0) ⌝ }
+{
+    match rows::find(words, d) {
         Found::Nothing => Sight::Refused(Refusal::Absent),
         Found::At(at) => {
-            if climb(words, at) {
+            if ascend(&words, at) {
                 Sight::Visible
             } else {
                 Sight::Hidden
@@ -178,29 +178,28 @@ fn fill_lists(words: &[u32], position: usize, taken: &mut [u32], upcoming: &mut 
     let mut i = 0;
     while i < n {
         let at = RowPlace(i);
-        let step = rows::is_step(words, at, high);
+        let step = held::is_step(words, at, high);
         list_step(
             step,
-            rows::document(words, at),
+            held::document(words, at),
             m,
             position,
             taken,
             upcoming,
         );
-        high = rows::higher(high, rows::frame(words, at));
+        high = held::higher(high, held::frame(words, at));
         m += step as usize;
         i += 1;
     }
 }
 
-// Taken and upcoming steps of a sound record.
-fn list(words: &[u32], taken: &mut [u32], upcoming: &mut [u32]) -> Listed
-    requires { ⌜ Examined (now words) ⌝ }
+// Taken and upcoming steps of a sound record that stands so.
+fn list(words: &[u32], s: Stand, taken: &mut [u32], upcoming: &mut [u32]) -> Listed
+    requires { ⌜ Located (now words) s ⌝ }
     ensures { λ r. ⌜ outcome (Call.Lists (now (words .entry)) (now (taken .entry)) (now (upcoming .entry))) ≡ record { answer = listedIs r; lent = now (taken .exit) ∷ now (upcoming .exit) ∷ [] } ⌝ }
 {
-    let t = rows::count_steps(words);
-    let position = t.position;
-    let ahead = t.steps - position;
+    let position = s.position;
+    let ahead = s.steps - position;
     if taken.len() < position {
         return Listed::Refused(Refusal::ShortBuffer);
     }
@@ -215,8 +214,8 @@ fn list(words: &[u32], taken: &mut [u32], upcoming: &mut [u32]) -> Listed
 pub fn lists(words: &[u32], taken: &mut [u32], upcoming: &mut [u32]) -> Listed
     ensures { λ r. ⌜ outcome (Call.Lists (now (words .entry)) (now (taken .entry)) (now (upcoming .entry))) ≡ record { answer = listedIs r; lent = now (taken .exit) ∷ now (upcoming .exit) ∷ [] } ⌝ }
 {
-    match sound::examine(words) {
-        Check::No(r) => Listed::Refused(r),
-        Check::Sound => list(words, taken, upcoming),
+    match sound::locate(words) {
+        Survey::No(r) => Listed::Refused(r),
+        Survey::Stands(s) => list(words, s, taken, upcoming),
     }
 }

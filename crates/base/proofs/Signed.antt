@@ -1,5 +1,5 @@
 -- A 32-bit amount and its sign: in 64 bits its negation fits. Assumes nothing.
-use Prim.Native.Nat.{ℕ, suc}
+use Prim.Native.Nat.{ℕ}
 use mathlib.Core.Bool.{true, false, true≢false}
 use mathlib.Core.Path.{_≡_}
 use native.Mathlib.Omega.{arith}

@@ -1,12 +1,10 @@
 -- Change rows as plain words: one row set, and the rows one by one. Assumes nothing.
 use Prim.Native.Nat.{ℕ, zero, suc, _+_, _*_, _/_, _≤_, _<_, _^_}
-use mathlib.Core.Bool.{Bool, true, false}
 use mathlib.Core.List.{List, [], _∷_, _++_}
 use mathlib.Core.Path.{_≡_, refl, sym, ap, _∙_}
 use native.Mathlib.Omega.{arith}
 use lib.IntN.{ℤ}
 use lib.ListN.{length, set, length-set, length-append}
-use mir.Val.{boolByte}
 use Rattle.base.specs.declared.DocNo.{DocNo}
 use Rattle.rules.specs.Rows.{none, docAt, flag}
 use Rattle.rules.specs.Steps.{visibleAt}
@@ -76,18 +74,14 @@ module _ (words : List ℕ) (trip : Trip) (from : ℕ) (h : Awaits words trip fr
   pub row-places : (c .old .0 < length (rowsOf words)) × (c .new .0 < length (rowsOf words))
   row-places = (n .first row-found, n .second row-found)
 
-  pub row-follows : (b a : DocNo) (v : Bool) → b .0 ≡ docAt (rowsOf words) (c .old .0) → a .0 ≡ docAt (rowsOf words) (c .new .0) → v ≡ visibleAt (rowsOf words) (c .new .0) → c .frame .0 < none →
-      Follows words trip from (record { frame = c .frame; before = b; after = a; load = boolByte v })
+  pub row-follows : (b a : DocNo) (v : ℕ) → b .0 ≡ docAt (rowsOf words) (c .old .0) → a .0 ≡ docAt (rowsOf words) (c .new .0) → v ≡ flag (visibleAt (rowsOf words) (c .new .0)) → c .frame .0 < none →
+      Follows words trip from (record { frame = c .frame; before = b; after = a; load = v })
   row-follows b a v e f g l =
       record {
         below = row-found;
         small = l;
-        more = n .more row-found ∙ rw (e, f, g, byte (visibleAt (rowsOf words) (c .new .0))) refl;
+        more = n .more row-found ∙ rw (e, f, g) refl;
       }
-    where
-      byte : (w : Bool) → boolByte w ≡ flag w
-      byte true = refl
-      byte false = refl
 
 -- THE LOOP
 

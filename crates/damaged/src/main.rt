@@ -2,7 +2,6 @@
 //
 // The bytes are those of document 01's record X: 4 frames, next numbers 6 and 4; entries (frame, parent, documents, shown place) from byte 12 on, (0, none, 1, 0), (1, 0, 2, 0),
 // (2, 1, 2, 1), (3, 0, 1, 0); documents from byte 76 on: 0; 1, 5; 2, 4; 3.
-use base::Refusal;
 use loads::Loading;
 use saved::Saving;
 

@@ -1,5 +1,5 @@
 -- A record begins sound and stays sound, and its words 32-bit. Assumes nothing.
-use Prim.Native.Nat.{ℕ, _+_, _-_, _≤_}
+use Prim.Native.Nat.{ℕ, _+_, _≤_}
 use mathlib.Core.List.{List, [], _∷_}
 use mathlib.Core.Bool.{So, and-eq-true-iff}
 use mathlib.Core.Path.{refl, sym, ap, subst}

@@ -1,7 +1,7 @@
 -- Laws of the ladder of refusals, over all calls. Assumes nothing.
 use Prim.Native.Nat.{ℕ}
 use mathlib.Core.List.{List, [], _∷_}
-use mathlib.Core.Logic.{_↔_, _⊎_, inl, inr, ⊎-elim}
+use mathlib.Core.Logic.{_↔_, inl, inr, ⊎-elim}
 use mathlib.Core.Path.{_≡_, refl, sym, ap, subst, _∙_}
 use Rattle.rules.specs.Calls.{Call, Answer, Outcome, Rung, lentTo, refusals, accepted, ladder, outcome, Given, NoneGiven}
 use Rattle.laws.proofs.Tests.{test}

@@ -1,9 +1,9 @@
 -- S6 and S7 together say: who is shown is a function of the position. One step moves the position by one. Assumes nothing.
-use Prim.Native.Nat.{ℕ, zero, suc, _+_, _-_, _≤_, _<_, min}
+use Prim.Native.Nat.{ℕ, zero, suc, _+_, _≤_, _<_, min}
 use mathlib.Core.Path.{_≡_, refl, sym, ap, _∙_, subst, subst₂, subst₃}
 use mathlib.Core.Logic.{_↔_}
 use mathlib.Core.List.{List}
-use mathlib.Core.Bool.{true, false, not, _&&_, So, cond, and-eq-true-iff}
+use mathlib.Core.Bool.{false, not, _&&_, So, cond, and-eq-true-iff}
 use native.Mathlib.Nat.{add-suc, add-zero}
 use native.Mathlib.Omega.{arith}
 use lib.Dec.{eqb}
@@ -15,7 +15,7 @@ use Rattle.rules.specs.Steps.{same, step, reach, isStep, reached, taken, upcomi
 use Rattle.rules.specs.Moves.{show, forward, back, backTarget, rowBefore, times}
 use Rattle.rules.specs.Sound.{S6, S7}
 use Rattle.laws.proofs.Tests.{clash, count-le, one-out, nth, greatest, latest-is, by-lt}
-use Rattle.laws.proofs.Frames.{last, due, reach-in, step-in, step-out, last-below, last-reach, last-same, reached-due, OneEach, Later, positionOf}
+use Rattle.laws.proofs.Frames.{due, reach-in, step-in, step-out, last-below, last-reach, last-same, reached-due, OneEach, Later, positionOf}
 use Rattle.laws.proofs.Frames.{shows, shows-count, shows-one, shows-later, swap, next-due, next-shows, next-first, next-last, before-shows}
 use Rattle.laws.proofs.Flags.{flags-length, flags-row, flags-doc, flags-frame, flags-parent, flags-shown, flags-bit, flags-same, flags-eq, flags-flags}
 

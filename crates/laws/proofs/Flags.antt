@@ -6,7 +6,7 @@ use mathlib.Core.List.{List}
 use mathlib.Core.Bool.{Bool, true, false}
 use native.Mathlib.Omega.{arith}
 use lib.Dec.{eqb}
-use lib.ListN.{length, getD, List·getD-eq-default}
+use lib.ListN.{length, List·getD-eq-default}
 use borrow.Author.Tests.{eqb-true, eqb-false}
 use Rattle.rules.specs.Below.{tab}
 use Rattle.rules.specs.Rows.{Row, noRow, rowAt, docAt, frameAt, parentAt, shownAt, isShown, flag, marked, withFlags}

@@ -1,10 +1,10 @@
 -- n places in order, fr telling their frames: at a position each frame shows one of its places, and that is all that S6 and S7 allow.
 -- Everything that the theory of rows needs, with no list in it. Assumes nothing.
-use Prim.Native.Nat.{ℕ, suc, _-_, _≤_, _<_, min}
+use Prim.Native.Nat.{ℕ, suc, _≤_, _<_, min}
 use mathlib.Core.Path.{_≡_, refl, sym, ap, _∙_}
-use mathlib.Core.Bool.{Bool, true, false, not, _&&_, _||_, So, cond, and-eq-true-iff}
+use mathlib.Core.Bool.{Bool, false, not, _&&_, _||_, So, cond, and-eq-true-iff}
 use native.Mathlib.Omega.{arith}
-use lib.Dec.{ltb, eqb, leb}
+use lib.Dec.{ltb, eqb}
 use borrow.Author.Tests.{ltb-true, lt-ltb, le-ltb, leb-true, le-leb, eqb-true, eqb-false, eq-eqb, not-true}
 use Rattle.rules.specs.Below.{someBelow, count, earliest, latest}
 use Rattle.rules.specs.Steps.{same, step, reach}

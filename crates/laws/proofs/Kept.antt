@@ -1,17 +1,17 @@
 -- Rows kept, the gaps closed in order: one law for every removal. Assumes nothing.
-use Prim.Native.Nat.{ℕ, zero, suc, _+_, _-_, _≤_, _<_}
+use Prim.Native.Nat.{ℕ, zero, suc, _+_, _≤_, _<_}
 use mathlib.Core.Path.{_≡_, refl, sym, ap, ap₂, _∙_, subst}
 use mathlib.Core.List.{List}
-use mathlib.Core.Bool.{Bool, true, false, not, _&&_, So, and-eq-true-iff}
+use mathlib.Core.Bool.{Bool, false, not, _&&_, So, and-eq-true-iff}
 use native.Mathlib.Omega.{arith}
 use lib.ListN.{length}
 use Rattle.rules.specs.Below.{count, gather}
 use Rattle.rules.specs.Rows.{Row, noRow, rowAt, frameAt, marked}
-use Rattle.rules.specs.Steps.{step, reach, isStep, taken, position, steps}
+use Rattle.rules.specs.Steps.{step, isStep, taken, position, steps}
 use Rattle.rules.specs.Sound.{S6, S7}
-use Rattle.laws.proofs.Tests.{test, clash, off, same-tests, count-in, count-le, count-flat, count-mono, count-same, count-split, count-order, nth, by-order, by-lt}
+use Rattle.laws.proofs.Tests.{test, clash, off, same-tests, count-in, count-le, count-flat, count-mono, count-same, count-split, nth, by-order, by-lt}
 use Rattle.laws.proofs.Tests.{length-gather, gather-at, gather-is}
-use Rattle.laws.proofs.Frames.{last, due, first, step-in, step-out, reach-in, reach-out, last-in, last-out, due-first, due-in, due-out, shows}
+use Rattle.laws.proofs.Frames.{last, due, first, step-in, step-out, last-in, last-out, due-first, due-in, due-out, shows}
 use Rattle.laws.proofs.Central.{flagsAt, central, reached-is, at-length, at-row, at-position, at-S6, at-S7}
 
 -- Place k comes to place `count keep k`.
@@ -92,19 +92,6 @@ module _ (n : ℕ) (fr g : ℕ → ℕ) (keep : ℕ → Bool) (frames : (k : ℕ
         let j = nth keep n i c in
         let l : k < j .0 = by-lt k (j .0) (λ l. l) (λ l. absurd (omega (arith, count-mono keep k l))) in
         o .1 (j .0) l (j .1) (sym (frames (j .0) (j .1) (j .2)) ∙ ap g (j .3) ∙ e ∙ frames k a t) (sym (alike (j .0) (j .1) (j .2)) ∙ ap r (j .3) ∙ d)))
-
-    pub reach-kept : (k : ℕ) → k < n → So (keep k) → reach (count keep n) g r (count keep k) ≡ reach n fr q k
-    reach-kept k a t =
-        same-tests
-        (λ h.
-        let o = reach-out (count keep n) g r (count keep k) h in
-        let j = nth keep n (o .0) (o .2) in
-        reach-in n fr q (count-order keep k (j .0) (j .2) (omega arith)) (j .1) (sym (frames (j .0) (j .1) (j .2)) ∙ ap g (j .3) ∙ o .3 ∙ frames k a t)
-        (sym (alike (j .0) (j .1) (j .2)) ∙ ap r (j .3) ∙ o .4))
-        (λ h.
-        let o = reach-out n fr q k h in
-        let u = whole (o .0) k (o .2) a (o .3) (o .4) t in
-        reach-in (count keep n) g r (count-mono keep (o .0) (o .1)) (count-in keep n (o .2) u) (frames (o .0) (o .2) u ∙ o .3 ∙ sym (frames k a t)) (alike (o .0) (o .2) u ∙ o .4))
 
   -- The law of removal. With a place every due one of its frame is kept: then what is shown at p stays shown, at the number of kept steps that are due.
   module _ (p : ℕ) (whole : (j k : ℕ) → j < n → k < n → fr j ≡ fr k → So (due fr p j) → So (keep k) → So (keep j)) where

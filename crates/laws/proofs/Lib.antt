@@ -14,6 +14,7 @@ pub mod Reflect
 pub mod Writes
 pub mod Words
 pub mod Loops
+pub mod Standing
 pub mod Calls
 pub mod Pieces
 pub mod Numbers

@@ -11,7 +11,7 @@ use mir.Val.{Fits, boolByte}
 use borrow.Author.Needs.{needs}
 use borrow.Author.Tests.{not-true, not-false, lt-ltb, le-ltb, le-leb, lt-leb, eq-eqb, ne-eqb}
 use Rattle.rules.specs.Below.{someBelow, allBelow, count, earliest, latest}
-use Rattle.laws.proofs.Tests.{test, clash, off, some-in, some-out, all-out, count-zero, count-yes, count-no, earliest-is}
+use Rattle.laws.proofs.Tests.{clash, off, some-in, some-out, all-out, count-zero, count-yes, count-no, earliest-is}
 
 module _ (p : ℕ → Bool) where
   -- EVERY
@@ -81,11 +81,11 @@ module _ (p : ℕ → Bool) where
   down P h zero l = absurd (not-suc-le-zero l)
   down P h (suc k) l = let e : k ≡ suc k - 1 = omega arith in subst (P (suc k)) e (h k)
 
-  latest-yes : (k : ℕ) → So (p k) → latest p (suc k) ≡ k
+  pub latest-yes : (k : ℕ) → So (p k) → latest p (suc k) ≡ k
   unfolding latest
   latest-yes k t = rw t refl
 
-  latest-no : (k : ℕ) → p k ≡ false → latest p (suc k) ≡ latest p k
+  pub latest-no : (k : ℕ) → p k ≡ false → latest p (suc k) ≡ latest p k
   unfolding latest
   latest-no k f = rw f refl
 

@@ -3,7 +3,7 @@ use Prim.Native.Nat.{ℕ, zero, suc, _+_, _≤_, _<_}
 use mathlib.Core.Path.{_≡_, refl, sym, ap, _∙_, subst}
 use mathlib.Core.List.{List}
 use mathlib.Core.Logic.{⊎-elim}
-use mathlib.Core.Bool.{Bool, true, false, not, _&&_, So, and-eq-true-iff}
+use mathlib.Core.Bool.{Bool, false, not, _&&_, So, and-eq-true-iff}
 use native.Mathlib.Nat.{not-suc-le-zero}
 use native.Mathlib.Omega.{arith}
 use lib.ListN.{length}
@@ -16,7 +16,7 @@ use Rattle.rules.specs.Sound.{S6, S7, SoundTable}
 use Rattle.laws.proofs.Tests.{test, clash, off, same-tests, count-same}
 use Rattle.laws.proofs.Frames.{due, due-in, due-out, step-in, step-out, reach-out, last-out, shows}
 use Rattle.laws.proofs.Central.{flagsAt, reached-is, at-shown, at-doc, at-parent}
-use Rattle.laws.proofs.Kept.{kept, Whole, removed-steps, kept-position, kept-falls, kept-S6, kept-S7}
+use Rattle.laws.proofs.Kept.{Whole, removed-steps, kept-position, kept-falls, kept-S6, kept-S7}
 use Rattle.laws.proofs.Tree.{TreeOf, tree-of, distinct, proper, parent-earlier, tree-kept}
 use Rattle.laws.proofs.Climb.{gone-self, gone-child, gone-cases, visible-out}
 

@@ -1,5 +1,5 @@
 -- S2 to S5 as one record over functions: what a change of the rows has to keep. Assumes nothing.
-use Prim.Native.Nat.{ℕ, zero, suc, _+_, _-_, _≤_, _<_}
+use Prim.Native.Nat.{ℕ, zero, suc, _-_, _≤_, _<_}
 use mathlib.Core.Path.{_≡_, sym, ap, _∙_, subst, subst₂}
 use mathlib.Core.List.{List, [], _∷_, _++_}
 use mathlib.Core.Logic.{_⊎_, inl, inr, ⊎-elim}
@@ -8,9 +8,9 @@ use native.Mathlib.Nat.{not-suc-le-zero}
 use native.Mathlib.Omega.{arith}
 use lib.ListN.{length}
 use borrow.Author.Tests.{eqb-true, eq-eqb}
-use Rattle.rules.specs.Below.{count, earliest}
+use Rattle.rules.specs.Below.{count}
 use Rattle.rules.specs.Rows.{Row, Table, none, rowAt, docAt, frameAt, parentAt, place, withFlags}
-use Rattle.rules.specs.Sound.{S1, S2, S6, S7, SoundTable}
+use Rattle.rules.specs.Sound.{S1, S6, S7, SoundTable}
 use Rattle.laws.proofs.Tests.{by-order, by-lt, below-cases, count-in, count-mono, earliest-is, gather-from}
 use Rattle.laws.proofs.Flags.{flags-length, flags-doc, flags-frame, flags-parent}
 use Rattle.laws.proofs.Append.{length-snoc, snoc-old, snoc-new}

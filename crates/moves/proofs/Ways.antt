@@ -1,25 +1,27 @@
 -- Fresh and Open, by the ways that they go. Assumes nothing.
 use Prim.Native.Nat.{ℕ, _+_, _-_, _*_, _≤_, _<_}
-use mathlib.Core.Bool.{Bool, true, false, not, _||_, So}
+use mathlib.Core.Bool.{Bool, true, false, _||_, So}
 use mathlib.Core.List.{List, [], _∷_, _++_, flatMap}
 use mathlib.Core.Logic.{_≢_, inl, inr}
 use mathlib.Core.Path.{_≡_, refl, sym, ap, ap₂, _∙_}
 use native.Mathlib.Numerals.{add-one}
 use native.Mathlib.Omega.{arith}
 use lib.ListN.{length, replicate}
-use lib.Dec.{eqb, leb}
+use lib.Dec.{eqb}
 use borrow.Author.Tests.{lt-ltb, le-ltb, leb-false, le-leb, lt-leb, eq-eqb, ne-eqb, not-false}
-use Rattle.rules.specs.Rows.{Row, Table, none, inRecord}
-use Rattle.rules.specs.Steps.{visible}
+use Rattle.rules.specs.Rows.{Row, none}
 use Rattle.rules.specs.Moves.{freshTable, opened}
 use Rattle.rules.specs.Words.{put, capacity, tableOf, rowsOf, rowWords, wordsOf, written}
-use Rattle.rules.specs.Calls.{Call, Answer, refusals, accepted, ladder, outcome, Given, NoneGiven}
+use Rattle.rules.specs.Calls.{Call, Answer, full, refusals, accepted, ladder, outcome, Given, NoneGiven}
 use Rattle.laws.proofs.Tests.{clash}
 use Rattle.laws.proofs.Writes.{put-put}
 use Rattle.laws.proofs.Words.{written-table}
 use Rattle.laws.proofs.Appended.{written-more}
 use Rattle.laws.proofs.Calls.{outcome-accepted}
-use Rattle.sound.specs.Check.{Examined}
+use Rattle.base.specs.declared.Refusal.the-variants.{Full, UsedUp}
+use Rattle.sound.specs.Check.{Examined, Settles}
+use Rattle.sound.specs.declared.Check.the-variants.{Sound, No}
+use Rattle.moves.specs.Answers.{roomRungs}
 use Rattle.sound.proofs.Checks.{examined-sound}
 
 -- FRESH
@@ -44,39 +46,34 @@ fresh-done words a b new c l e p q r = rw (le-ltb _ _ l, fresh-words words a b n
 
 -- OPEN
 
+module _ (words : List ℕ) (c n : ℕ) (room : c ≡ capacity words) (used : n ≡ length (rowsOf words)) where
+  pub room-full : c ≤ n → Settles (roomRungs words) (No Full)
+  unfolding Given
+  room-full l = inl (le-leb (capacity words) (length (rowsOf words)) (omega arith), refl)
+
+  module _ (l : n < c) (d : ℕ) (next : d ≡ tableOf words .nextDoc) where
+    left : full words (rowsOf words) ≡ false
+    left = lt-leb (capacity words) (length (rowsOf words)) (omega arith)
+
+    pub no-document : d ≡ none → Settles (roomRungs words) (No UsedUp)
+    unfolding Given
+    no-document z = inr (left, inl (rw (eq-eqb _ _ (sym next ∙ z)) refl, refl))
+
+    module _ (some : d ≡ none → ⊥) (f : ℕ) (following : f ≡ tableOf words .nextFrame) where
+      unused : eqb (tableOf words .nextDoc) none ≡ false
+      unused = ne-eqb _ _ (λ z. some (next ∙ z))
+
+      pub no-frame : f ≡ none → Settles (roomRungs words) (No UsedUp)
+      unfolding Given
+      no-frame z = inr (left, inl (rw (unused, eq-eqb _ _ (sym following ∙ z)) refl, refl))
+
+      pub room-left : (f ≡ none → ⊥) → Settles (roomRungs words) Sound
+      unfolding NoneGiven
+      room-left ne = (left, (rw (unused, ne-eqb _ _ (λ z. ne (following ∙ z))) refl, tt))
+
 module _ (words : List ℕ) (parent : ℕ) where
   abbrev call : Call
   call = Call.Open words parent
-
-  -- Each refusal after the first two.
-  module _ (e : Examined words) where
-    pub open-absent : inRecord (rowsOf words) parent ≡ false → Given 4 (refusals call)
-    unfolding refusals Given
-    open-absent f = inr (e .long, inr (rw (e .passes) refl, inl (rw f refl, refl)))
-
-    module _ (here : inRecord (rowsOf words) parent ≡ true) where
-      pub open-hidden : visible (rowsOf words) parent ≡ false → Given 5 (refusals call)
-      unfolding refusals Given
-      open-hidden f = inr (e .long, inr (rw (e .passes) refl, inr (rw here refl, inl (rw f refl, refl))))
-
-      module _ (seen : visible (rowsOf words) parent ≡ true) where
-        pub open-full : capacity words ≤ length (rowsOf words) → Given 7 (refusals call)
-        unfolding refusals Given
-        open-full l = inr (e .long, inr (rw (e .passes) refl, inr (rw here refl, inr (rw seen refl, inl (le-leb _ _ l, refl)))))
-
-        module _ (room : length (rowsOf words) < capacity words) where
-          pub open-no-document : tableOf words .nextDoc ≡ none → Given 8 (refusals call)
-          unfolding refusals Given
-          open-no-document z = inr (e .long, inr (rw (e .passes) refl, inr (rw here refl, inr (rw seen refl, inr (lt-leb _ _ room, inl (rw (eq-eqb _ _ z) refl, refl))))))
-
-          module _ (unused : tableOf words .nextDoc ≡ none → ⊥) where
-            pub open-no-frame : tableOf words .nextFrame ≡ none → Given 8 (refusals call)
-            unfolding refusals Given
-            open-no-frame z = inr (e .long, inr (rw (e .passes) refl, inr (rw here refl, inr (rw seen refl, inr (lt-leb _ _ room, inl (rw (ne-eqb _ _ unused, eq-eqb _ _ z) refl, refl))))))
-
-            pub open-fine : (tableOf words .nextFrame ≡ none → ⊥) → NoneGiven (refusals call)
-            unfolding refusals NoneGiven
-            open-fine ne = (e .long, (rw (e .passes) refl, (rw here refl, (rw seen refl, (lt-leb _ _ room, (rw (ne-eqb _ _ unused, ne-eqb _ _ ne) refl, tt))))))
 
   -- What an accepted Open may rely on.
   pub record Opening : Type 0 where

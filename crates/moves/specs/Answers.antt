@@ -1,7 +1,10 @@
--- The paper's number and values for each case of an answer.
-use mathlib.Core.List.{[], _∷_}
+-- The paper's number and values for each case of an answer, and the refusals of Open that its room decides.
+use Prim.Native.Nat.{ℕ}
+use mathlib.Core.Bool.{_||_}
+use mathlib.Core.List.{List, [], _∷_}
 use Rattle.base.specs.Numbers.{numberOf}
-use Rattle.rules.specs.Calls.{Answer}
+use Rattle.rules.specs.Words.{tableOf, rowsOf}
+use Rattle.rules.specs.Calls.{Answer, Rung, _when_, full, usedUp}
 use Rattle.moves.specs.declared.Freshened.{Freshened}
 use Rattle.moves.specs.declared.Freshened.the-variants as Freshens
 use Rattle.moves.specs.declared.Opened.{Opened}
@@ -14,3 +17,7 @@ freshIs (Freshens.Refused r) = Answer.refuses (numberOf r)
 abbrev pub openedIs : Opened → Answer
 openedIs (Opens.Numbers d f) = Answer.gives (d .0 ∷ f .0 ∷ [])
 openedIs (Opens.Refused r) = Answer.refuses (numberOf r)
+
+-- The end of Open's table.
+abbrev pub roomRungs : List ℕ → List Rung
+roomRungs words = 7 when full words (rowsOf words) ∷ 8 when (usedUp (tableOf words .nextDoc) || usedUp (tableOf words .nextFrame)) ∷ []

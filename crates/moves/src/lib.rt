@@ -1,17 +1,17 @@
 // Fresh and Open.
+use asks::Sight;
 use base::DocNo;
 use base::FrameNo;
 use base::Refusal;
 use base::RowPlace;
-use rows::Found;
-use rows::NONE;
+use held::NONE;
 use sound::Check;
 ghost use mathlib.Core.Path.{_≡_};
 ghost use mathlib.Core.List.{[], _∷_};
 ghost use Rattle.rules.specs.Calls.{Call, outcome};
-ghost use Rattle.sound.specs.Check.{Examined, Judged};
+ghost use Rattle.sound.specs.Check.{Examined, Settles, Judged};
 ghost use Rattle.sound.specs.declared.Check.the-variants.{Sound};
-ghost use Rattle.moves.specs.Answers.{freshIs, openedIs};
+ghost use Rattle.moves.specs.Answers.{freshIs, openedIs, roomRungs};
 
 // What Fresh answers.
 pub enum Freshened {
@@ -39,19 +39,11 @@ pub enum Opened {
     Refused(Refusal),
 }
 
-// Whether a frame may be opened under a document of a sound record.
-fn may_open(words: &[u32], parent: DocNo) -> Check
-    requires { ⌜ Examined (now words) ⌝ }
-    ensures { λ r. ⌜ Judged (Call.Open (now (words .entry)) (parent .0)) r ⌝ }
+// Refusals 7 and 8.
+fn judge_room(words: &[u32]) -> Check
+    ensures { λ r. ⌜ Settles (roomRungs (now (words .entry))) r ⌝ }
 {
-    let n = rows::row_count(words);
-    let Found::At(at) = rows::find_below(words, RowPlace(n), parent) else {
-        return Check::No(Refusal::Absent);
-    };
-    if !asks::climb(words, at) {
-        return Check::No(Refusal::Hidden);
-    }
-    if rows::capacity(words) <= n {
+    if rows::capacity(words) <= rows::row_count(words) {
         return Check::No(Refusal::Full);
     }
     if rows::next_document(words).0 == NONE {
@@ -61,6 +53,18 @@ fn may_open(words: &[u32], parent: DocNo) -> Check
         return Check::No(Refusal::UsedUp);
     }
     Check::Sound
+}
+
+// Whether a frame may be opened under a document of a sound record.
+fn may_open(words: &[u32], parent: DocNo) -> Check
+    requires { ⌜ Examined (now words) ⌝ }
+    ensures { λ r. ⌜ Judged (Call.Open (now (words .entry)) (parent .0)) r ⌝ }
+{
+    match asks::seen(words, parent) {
+        Sight::Refused(r) => Check::No(r),
+        Sight::Hidden => Check::No(Refusal::Hidden),
+        Sight::Visible => judge_room(words),
+    }
 }
 
 // Whether a frame may be opened under a document.

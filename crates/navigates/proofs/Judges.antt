@@ -3,32 +3,32 @@ use Prim.Native.Nat.{ℕ, suc, _≤_, _<_}
 use mathlib.Core.Bool.{Bool, true, false, not, _&&_, So, and-eq-true-iff}
 use mathlib.Core.List.{List, [], _∷_}
 use mathlib.Core.Logic.{_≢_, inl, inr}
-use mathlib.Core.Path.{_≡_, refl, sym, subst, _∙_}
+use mathlib.Core.Path.{_≡_, refl, sym, _∙_}
 use native.Mathlib.Omega.{arith}
 use lib.Dec.{eqb}
 use lib.ListN.{length}
 use borrow.Author.Tests.{eqb-true, eqb-false, eq-eqb, ne-eqb, leb-true, leb-false, le-leb, lt-leb, not-false}
 use Rattle.base.specs.declared.Refusal.{Refusal}
-use Rattle.base.specs.declared.Refusal.the-variants.{Absent, Hidden, Full, UsedUp}
+use Rattle.base.specs.declared.Refusal.the-variants.{Full, UsedUp}
 use Rattle.base.specs.Numbers.{numberOf}
-use Rattle.rules.specs.Below.{earliest, someBelow, count}
-use Rattle.rules.specs.Rows.{Row, none, inRecord}
+use Rattle.rules.specs.Below.{someBelow, count}
+use Rattle.rules.specs.Rows.{Row, none}
 use Rattle.rules.specs.Steps.{isStep, reached, taken, upcoming, position, steps, visible}
 use Rattle.rules.specs.Moves.{without, cleared, navigated}
 use Rattle.rules.specs.Words.{capacity, tableOf, rowsOf, written}
 use Rattle.rules.specs.Calls.{Call, Answer, full, refusals, accepted, outcome, Given, NoneGiven}
 use Rattle.laws.proofs.Calls.{outcome-accepted, outcome-refused}
 use Rattle.laws.proofs.Tests.{test, clash, off, same-tests, some-in, some-out, count-in, count-same, count-split, count-all, count-most, count-misses}
-use Rattle.laws.proofs.Loops.{earliest-none}
-use Rattle.laws.proofs.Central.{position-steps}
 use Rattle.laws.proofs.Kept.{kept-length}
 use Rattle.laws.proofs.Climb.{gone-self}
 use Rattle.laws.proofs.Removal.{stays, stays-in, gone-later}
-use Rattle.sound.specs.Check.{checkOf, Examined, Judged}
-use Rattle.sound.specs.declared.Check.{Check}
+use Rattle.sound.specs.Check.{Examined, Settles}
 use Rattle.sound.specs.declared.Check.the-variants.{Sound, No}
-use Rattle.sound.proofs.Checks.{check-given}
-use Rattle.navigates.specs.Answers.{RoomJudged}
+use Rattle.sound.specs.Survey.{surveyOf}
+use Rattle.sound.specs.declared.Survey.{Survey}
+use Rattle.sound.specs.declared.Survey.the-variants.{No as Survey·No}
+use Rattle.sound.proofs.Checks.{survey-given}
+use Rattle.navigates.specs.Answers.{roomRungs}
 
 -- WHEN NO ROW IS LEFT
 
@@ -90,45 +90,20 @@ pub full-counted : (words : List ℕ) (n c p s : ℕ) → n ≡ length (rowsOf w
     eqb s p ≡ full words (cleared (rowsOf words))
 full-counted words n c p s en ec held l ep es = let e : eqb n c ≡ true = eq-eqb n c (omega arith) in rw e at (full-is words n c p s en ec held ep es)
 
-pub no-upcoming : (words : List ℕ) (n p s : ℕ) → n ≡ length (rowsOf words) → p ≡ position (rowsOf words) → s ≡ steps (rowsOf words) → s ≤ p → n ≡ earliest (upcoming (rowsOf words)) (length (rowsOf words))
-no-upcoming words n p s en ep es l =
-    let e : steps (rowsOf words) ≡ position (rowsOf words) = omega (arith, position-steps (rowsOf words)) in
-    en ∙ sym (earliest-none (upcoming (rowsOf words)) (length (rowsOf words)) (off _ (λ h. let k = some-out (upcoming (rowsOf words)) (length (rowsOf words)) h in clash (k .2) (none-upcoming (rowsOf words) e (k .0) (k .1)))))
-
 -- REFUSALS 7 AND 8
 
 module _ (words : List ℕ) (b : Bool) (e : b ≡ full words (cleared (rowsOf words))) where
-  pub room-full : b ≡ true → RoomJudged words (No Full)
+  pub room-full : b ≡ true → Settles (roomRungs words) (No Full)
   unfolding Given
   room-full t = inl (sym e ∙ t, refl)
 
-  pub room-used : (d : ℕ) → b ≡ false → d ≡ tableOf words .nextDoc → d ≡ none → RoomJudged words (No UsedUp)
+  pub room-used : (d : ℕ) → b ≡ false → d ≡ tableOf words .nextDoc → d ≡ none → Settles (roomRungs words) (No UsedUp)
   unfolding Given
   room-used d f h n = inr (sym e ∙ f, inl (eq-eqb _ _ (sym h ∙ n), refl))
 
-  pub room-left : (d : ℕ) → b ≡ false → d ≡ tableOf words .nextDoc → (d ≡ none → ⊥) → RoomJudged words Sound
+  pub room-left : (d : ℕ) → b ≡ false → d ≡ tableOf words .nextDoc → (d ≡ none → ⊥) → Settles (roomRungs words) Sound
   unfolding NoneGiven
   room-left d f h n = (sym e ∙ f, (ne-eqb _ _ (λ z. n (h ∙ z)), tt))
-
--- REFUSALS 4 TO 8
-
-module _ (words : List ℕ) (e : Examined words) (d : ℕ) where
-  pub judged-absent : inRecord (rowsOf words) d ≡ false → Judged (Call.Navigate words d) (No Absent)
-  unfolding refusals Given
-  judged-absent f = inr (e .long, inr (rw (e .passes) refl, inl (rw f refl, refl)))
-
-  pub judged-hidden : inRecord (rowsOf words) d ≡ true → visible (rowsOf words) d ≡ false → Judged (Call.Navigate words d) (No Hidden)
-  unfolding refusals Given
-  judged-hidden t f = inr (e .long, inr (rw (e .passes) refl, inr (rw t refl, inl (rw f refl, refl))))
-
-  pub judged-room : (k : Check) → inRecord (rowsOf words) d ≡ true → visible (rowsOf words) d ≡ true → RoomJudged words k → Judged (Call.Navigate words d) k
-  unfolding refusals Given NoneGiven
-  judged-room Sound t v h = (e .long, (rw (e .passes) refl, (rw t refl, (rw v refl, h))))
-  judged-room (No r) t v h = inr (e .long, inr (rw (e .passes) refl, inr (rw t refl, inr (rw v refl, h))))
-
-pub judged-refused : (words : List ℕ) (d : ℕ) (k : Check) (r : Refusal) → k ≡ checkOf words → k ≡ No r → Judged (Call.Navigate words d) (No r)
-unfolding refusals
-judged-refused words d k r e f = check-given words _ k r e f
 
 -- What an accepted call may rely on.
 pub record Free (words : List ℕ) (d : ℕ) : Type 0 where
@@ -149,14 +124,11 @@ free words d h =
 
 -- THE OUTCOME
 
-module _ (words : List ℕ) (d : ℕ) (k : Check) (h : Judged (Call.Navigate words d) k) where
-  pub navigate-goes : k ≡ Sound → NoneGiven (refusals (Call.Navigate words d))
-  navigate-goes e = subst (Judged (Call.Navigate words d)) e h
+pub navigate-refused : (words : List ℕ) (d : ℕ) (k : Survey) (r : Refusal) → k ≡ surveyOf words → k ≡ Survey·No r → outcome (Call.Navigate words d) ≡ record { answer = Answer.refuses (numberOf r); lent = words ∷ [] }
+unfolding refusals
+navigate-refused words d k r e f = outcome-refused (Call.Navigate words d) (numberOf r) (survey-given words _ k r e f)
 
-  pub navigate-refused : (r : Refusal) → k ≡ No r → outcome (Call.Navigate words d) ≡ record { answer = Answer.refuses (numberOf r); lent = words ∷ [] }
-  navigate-refused r e = outcome-refused (Call.Navigate words d) (numberOf r) (subst (Judged (Call.Navigate words d)) e h)
-
-  pub navigate-given : (e : ℕ) (left : List ℕ) → k ≡ Sound → e ≡ tableOf words .nextDoc → left ≡ written words (navigated (tableOf words) d) →
-      outcome (Call.Navigate words d) ≡ record { answer = Answer.gives (e ∷ []); lent = left ∷ [] }
-  unfolding accepted
-  navigate-given e left s a b = outcome-accepted (Call.Navigate words d) (navigate-goes s) ∙ rw (a, b) refl
+pub navigate-given : (words : List ℕ) (d : ℕ) → NoneGiven (refusals (Call.Navigate words d)) → (e : ℕ) (left : List ℕ) → e ≡ tableOf words .nextDoc → left ≡ written words (navigated (tableOf words) d) →
+    outcome (Call.Navigate words d) ≡ record { answer = Answer.gives (e ∷ []); lent = left ∷ [] }
+unfolding accepted
+navigate-given words d h e left a b = outcome-accepted (Call.Navigate words d) h ∙ rw (a, b) refl

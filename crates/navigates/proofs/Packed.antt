@@ -1,5 +1,5 @@
 -- Rows closed up in the words: what stands where, and the loop that does it. Assumes nothing.
-use Prim.Native.Nat.{ℕ, zero, suc, _+_, _-_, _*_, _/_, _%_, _≤_, _<_}
+use Prim.Native.Nat.{ℕ, zero, suc, _+_, _*_, _/_, _%_, _≤_, _<_}
 use mathlib.Core.Bool.{Bool, So}
 use mathlib.Core.List.{List, [], _∷_, _++_, flatMap, append-assoc}
 use mathlib.Core.Path.{_≡_, refl, sym, ap, ap₂, subst, _∙_}
@@ -17,8 +17,8 @@ use Rattle.laws.proofs.Tests.{test, count-yes, count-no, count-all, count-in, l
 use Rattle.laws.proofs.Removal.{SoundRows, sound-rows, stays}
 use Rattle.laws.proofs.Words.{rows-length, rows-row, length-words}
 use Rattle.laws.proofs.Writes.{length-put, put-put, put-same, get-put-in, get-put-past, get-put-before}
-use Rattle.rows.specs.Held.{Within}
-use Rattle.rows.proofs.Tallies.{Earliest, earliest-out}
+use Rattle.held.specs.Held.{Within}
+use Rattle.held.proofs.Nexts.{Earliest, earliest-out}
 use Rattle.sound.specs.Check.{Examined}
 use Rattle.sound.proofs.Checks.{examined-sound, examined-held}
 use Rattle.navigates.specs.Packing.{joins, Moved}

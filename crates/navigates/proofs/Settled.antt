@@ -26,7 +26,7 @@ use Rattle.laws.proofs.Climb.{sees-out}
 use Rattle.laws.proofs.Removal.{SoundRows, sound-rows, stays, cleared-removed, visible-stays}
 use Rattle.laws.proofs.Words.{rows-length, length-words}
 use Rattle.laws.proofs.Writes.{put-one, put-put, put-far, put-before, put-same, get-put-past}
-use Rattle.rows.specs.Held.{Within}
+use Rattle.held.specs.Held.{Within}
 use Rattle.sound.proofs.Checks.{examined-sound, examined-held}
 use Rattle.navigates.specs.Packing.{settled}
 use Rattle.navigates.proofs.Judges.{Free, cleared-length}

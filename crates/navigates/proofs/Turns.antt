@@ -1,26 +1,24 @@
 -- What the scans and the single writes tell. Assumes nothing.
 use Prim.Native.Nat.{ℕ, _+_, _-_, _*_, _≤_, _<_}
-use mathlib.Core.Bool.{Bool, true, false, _&&_, So, and-eq-true-iff}
+use mathlib.Core.Bool.{Bool, true, false, So}
 use mathlib.Core.List.{List, [], _∷_}
 use mathlib.Core.Path.{_≡_, refl, sym, ap, subst, _∙_}
 use native.Mathlib.Omega.{arith}
-use lib.Dec.{leb}
-use lib.ListN.{length, replicate}
-use borrow.Author.Tests.{eqb-true, leb-true, leb-false, not-true}
+use lib.ListN.{replicate}
+use borrow.Author.Tests.{eqb-true}
 use Rattle.base.specs.declared.RowPlace.{RowPlace}
-use Rattle.rules.specs.Below.{someBelow, count}
-use Rattle.rules.specs.Rows.{Row, docAt, frameAt, parentAt, shownAt, isDoc}
-use Rattle.rules.specs.Steps.{same, isStep, upcoming, position}
+use Rattle.rules.specs.Below.{someBelow}
+use Rattle.rules.specs.Rows.{Row, rowAt, docAt, frameAt, parentAt, isDoc}
+use Rattle.rules.specs.Steps.{same}
 use Rattle.rules.specs.Words.{put, rowsOf}
-use Rattle.rules.specs.Sound.{S6, S7}
-use Rattle.laws.proofs.Tests.{test, clash, off, same-tests, latest-out}
-use Rattle.laws.proofs.Frames.{due-in, due-out}
-use Rattle.laws.proofs.Central.{reached-is}
+use Rattle.laws.proofs.Tests.{clash, latest-out}
 use Rattle.laws.proofs.Writes.{put-none}
-use Rattle.rows.specs.Found.{foundBelow}
-use Rattle.rows.specs.declared.Found.{Found}
-use Rattle.rows.specs.declared.Found.the-variants.{At, Nothing}
-use Rattle.rows.proofs.Scans.{found-at, found-lower, found-nothing}
+use Rattle.held.specs.Found.{foundBelow}
+use Rattle.held.specs.declared.Found.{Found}
+use Rattle.held.specs.declared.Found.the-variants.{At, Nothing}
+use Rattle.held.proofs.Scans.{found-at, found-lower, found-nothing}
+use Rattle.rows.specs.Holds.{readOf}
+use Rattle.rows.specs.declared.Row.{Row as Read}
 use Rattle.navigates.specs.Packing.{joins, Moved, settled}
 
 -- The row found holds the document; where one does, one is found.
@@ -38,22 +36,6 @@ module _ (rows : List Row) (k d : ℕ) (f : Found) (scan : f ≡ foundBelow (isD
 
   pub some-no : f ≡ Nothing → someBelow k (isDoc rows d) ≡ false
   some-no e = found-nothing (isDoc rows d) k (sym scan ∙ e)
-
--- The steps before the position are taken, the others upcoming.
-pub upcoming-is : (rows : List Row) → S6 rows → S7 rows → (i m p : ℕ) (b : Bool) → i < length rows → b ≡ isStep rows i → m ≡ count (isStep rows) i → p ≡ position rows →
-    (b && leb p m) ≡ upcoming rows i
-upcoming-is rows s6 s7 i m p b l e c h =
-    let r = reached-is rows s6 s7 i l in
-    same-tests
-    (λ t.
-    let u = simp and-eq-true-iff at t in
-    let le = leb-true p m (u .1) in
-    let st : So (isStep rows i) = sym e ∙ u .0 in
-    simp and-eq-true-iff (st, rw (r ∙ off _ (λ d. omega (arith, due-out (frameAt rows) (position rows) i d st))) refl))
-    (λ t.
-    let u = simp and-eq-true-iff at t in
-    simp and-eq-true-iff (e ∙ u .0, test (leb p m) (λ y. y) (λ n. absurd (clash (r ∙ due-in (frameAt rows) (position rows) i (omega (arith, leb-false p m n))) (not-true _ (u .1)))))
-    )
 
 -- A row joins the rows before k, or not.
 module _ (rows : List Row) (k i : ℕ) (b : Bool) (frame : b ≡ someBelow k (same (frameAt rows) i)) where
@@ -75,10 +57,8 @@ module _ (old : List ℕ) (i k : ℕ) (b : Bool) (e : b ≡ joins (rowsOf old) k
   pub row-goes : b ≡ false → Moved old i k k old
   row-goes f = record { next-is = rw (sym e ∙ f) refl; words-are = rw (sym e ∙ f) refl }
 
-  pub row-moves : (d f p s : ℕ) (new : List ℕ) → b ≡ true → d ≡ docAt (rowsOf old) i → f ≡ frameAt (rowsOf old) i → p ≡ parentAt (rowsOf old) i → s ≡ shownAt (rowsOf old) i →
-      new ≡ put old (3 + 4 * k) (d ∷ f ∷ p ∷ s ∷ []) → Moved old i k (k + 1) new
-  row-moves d f p s new t ed ef ep es h =
-      record { next-is = rw (sym e ∙ t) refl; words-are = h ∙ rw (sym e ∙ t, ed, ef, ep, es) refl }
+  pub row-moves : (r : Read) (new : List ℕ) → b ≡ true → r ≡ readOf (rowAt (rowsOf old) i) → new ≡ put old (3 + 4 * k) (r .document .0 ∷ r .frame .0 ∷ r .parent .0 ∷ r .shown ∷ []) → Moved old i k (k + 1) new
+  row-moves r new t er h = record { next-is = rw (sym e ∙ t) refl; words-are = h ∙ rw (sym e ∙ t, er) refl }
 
 -- Zeros up to a row, or none.
 pub zeros-to : (l new : List ℕ) (from to : ℕ) → new ≡ put l (3 + 4 * from) (replicate (3 + 4 * to - (3 + 4 * from)) 0) → new ≡ put l (3 + 4 * from) (replicate (4 * (to - from)) 0)
@@ -88,8 +68,8 @@ pub zeros-none : (l : List ℕ) (from to : ℕ) → to ≤ from → l ≡ put l 
 zeros-none l from to h = let e : 4 * (to - from) ≡ 0 = omega arith in rw e (put-none l (3 + 4 * from))
 
 -- One write after the other.
-pub settles : (w : List ℕ) (at k n d next f up : ℕ) (w1 w2 w3 w4 : List ℕ) → f ≡ frameAt (rowsOf w) at → up ≡ parentAt (rowsOf w) at → w1 ≡ put w (6 + 4 * at) (0 ∷ []) →
-    w2 ≡ put w1 (3 + 4 * k) (d ∷ f ∷ up ∷ 1 ∷ []) → w3 ≡ put w2 (3 + 4 * (k + 1)) (replicate (4 * (n - (k + 1))) 0) → w4 ≡ put w3 0 ((k + 1) ∷ (d + 1) ∷ next ∷ []) →
+pub settles : (w : List ℕ) (at k n d next : ℕ) (r : Read) (w1 w2 w3 w4 : List ℕ) → r ≡ readOf (rowAt (rowsOf w) at) → w1 ≡ put w (6 + 4 * at) (0 ∷ []) →
+    w2 ≡ put w1 (3 + 4 * k) (d ∷ r .frame .0 ∷ r .parent .0 ∷ 1 ∷ []) → w3 ≡ put w2 (3 + 4 * (k + 1)) (replicate (4 * (n - (k + 1))) 0) → w4 ≡ put w3 0 ((k + 1) ∷ (d + 1) ∷ next ∷ []) →
     w4 ≡ settled w at k n d next
 unfolding settled
-settles w at k n d next f up w1 w2 w3 w4 ef eu e1 e2 e3 e4 = e4 ∙ rw (e3, e2, e1, ef, eu) refl
+settles w at k n d next r w1 w2 w3 w4 er e1 e2 e3 e4 = e4 ∙ rw (e3, e2, e1, er) refl

@@ -1,11 +1,14 @@
 // Navigate: from a visible document every upcoming step goes, with what is beneath it, and a new document comes.
+use asks::Sight;
 use base::DocNo;
 use base::FrameNo;
 use base::Refusal;
 use base::RowPlace;
-use rows::Found;
-use rows::NONE;
+use held::Found;
+use held::NONE;
 use sound::Check;
+use sound::Stand;
+use sound::Survey;
 ghost use mathlib.Core.Path.{_≡_};
 ghost use mathlib.Core.Bool.{So};
 ghost use mathlib.Core.List.{[], _∷_, flatMap};
@@ -13,33 +16,33 @@ ghost use Prim.Native.Nat.{_+_, _-_, _*_, _<_, _≤_};
 ghost use lib.ListN.{length, replicate};
 ghost use Rattle.rules.specs.Below.{someBelow, earliest};
 ghost use Rattle.rules.specs.Rows.{none, frameAt, docAt, isDoc};
-ghost use Rattle.rules.specs.Steps.{same, upcoming, position as positionOf, steps as stepsOf};
+ghost use Rattle.rules.specs.Steps.{same, upcoming};
 ghost use Rattle.rules.specs.Moves.{cleared, navigated};
 ghost use Rattle.rules.specs.Words.{capacity, put, tableOf, rowsOf, rowWords, written};
 ghost use Rattle.rules.specs.Calls.{Call, full, refusals, NoneGiven, outcome};
-ghost use Rattle.rows.specs.Held.{Within};
-ghost use Rattle.sound.specs.Check.{Examined, Judged};
-ghost use Rattle.navigates.specs.Answers.{navigatedIs, RoomJudged};
+ghost use Rattle.held.specs.Held.{Within};
+ghost use Rattle.sound.specs.Check.{Examined, Settles, Judged};
+ghost use Rattle.sound.specs.Survey.{Located};
+ghost use Rattle.navigates.specs.Answers.{navigatedIs, roomRungs};
 ghost use Rattle.navigates.specs.Packing.{joins, Moved, settled};
 
 // Whether no row is left after the removal: only where nothing goes and all rows are in use.
-fn is_full(words: &[u32]) -> bool
-    requires { ⌜ Examined (now words) ⌝ }
+fn is_full(words: &[u32], s: Stand) -> bool
+    requires { ⌜ Located (now words) s ⌝ }
     ensures { λ r. ⌜ r ≡ full (now (words .entry)) (cleared (rowsOf (now (words .entry)))) ⌝ }
 {
     if rows::row_count(words) < rows::capacity(words) {
         return false;
     }
-    let t = rows::count_steps(words);
-    t.steps == t.position
+    s.steps == s.position
 }
 
-// Refusals 7 and 8, from a visible document.
-fn judge_room(words: &[u32]) -> Check
-    requires { ⌜ Examined (now words) ⌝ }
-    ensures { λ r. ⌜ RoomJudged (now (words .entry)) r ⌝ }
+// Refusals 7 and 8.
+fn judge_room(words: &[u32], s: Stand) -> Check
+    requires { ⌜ Located (now words) s ⌝ }
+    ensures { λ r. ⌜ Settles (roomRungs (now (words .entry))) r ⌝ }
 {
-    if is_full(words) {
+    if is_full(words, s) {
         return Check::No(Refusal::Full);
     }
     if rows::next_document(words).0 == NONE {
@@ -48,65 +51,16 @@ fn judge_room(words: &[u32]) -> Check
     Check::Sound
 }
 
-// Refusals 4 to 8, of a sound record.
-fn judge_sound(words: &[u32], from: DocNo) -> Check
-    requires { ⌜ Examined (now words) ⌝ }
+// Whether Navigate is refused, and how, of a sound record that stands so.
+fn judge(words: &[u32], s: Stand, from: DocNo) -> Check
+    requires { ⌜ Located (now words) s ⌝ }
     ensures { λ r. ⌜ Judged (Call.Navigate (now (words .entry)) (from .0)) r ⌝ }
 {
-    let n = rows::row_count(words);
-    match rows::find_below(words, RowPlace(n), from) {
-        Found::Nothing => Check::No(Refusal::Absent),
-        Found::At(at) => {
-            if asks::climb(words, at) {
-                judge_room(words)
-            } else {
-                Check::No(Refusal::Hidden)
-            }
-        }
+    match asks::seen(words, from) {
+        Sight::Refused(r) => Check::No(r),
+        Sight::Hidden => Check::No(Refusal::Hidden),
+        Sight::Visible => judge_room(words, s),
     }
-}
-
-// Whether Navigate is refused, and how.
-fn judge(words: &[u32], from: DocNo) -> Check
-    ensures { λ r. ⌜ Judged (Call.Navigate (now (words .entry)) (from .0)) r ⌝ }
-{
-    match sound::examine(words) {
-        Check::No(r) => Check::No(r),
-        Check::Sound => judge_sound(words, from),
-    }
-}
-
-// The earliest upcoming step of a sound record: the first step that is not among the taken ones, which come first; the end where there is none.
-fn first_upcoming(words: &[u32], position: usize) -> RowPlace
-    requires { ⌜ Examined (now words) × (position ≡ positionOf (rowsOf (now words))) ⌝ }
-    ensures { λ r. ⌜ r .0 ≡ earliest (upcoming (rowsOf (now (words .entry)))) (length (rowsOf (now (words .entry)))) ⌝ }
-{
-    let n = rows::row_count(words);
-    let mut m = 0;
-    let mut high = FrameNo(0);
-    let mut i = 0;
-    while i < n {
-        let at = RowPlace(i);
-        let step = rows::is_step(words, at, high);
-        if step & (position <= m) {
-            return at;
-        }
-        high = rows::higher(high, rows::frame(words, at));
-        m += step as usize;
-        i += 1;
-    }
-    RowPlace(n)
-}
-
-// Where the removal begins: at the earliest upcoming step, or at the end without a scan where all steps are taken.
-fn removal_start(words: &[u32], position: usize, steps: usize) -> RowPlace
-    requires { ⌜ Examined (now words) × (position ≡ positionOf (rowsOf (now words))) × (steps ≡ stepsOf (rowsOf (now words))) ⌝ }
-    ensures { λ r. ⌜ r .0 ≡ earliest (upcoming (rowsOf (now (words .entry)))) (length (rowsOf (now (words .entry)))) ⌝ }
-{
-    if steps <= position {
-        return RowPlace(rows::row_count(words));
-    }
-    first_upcoming(words, position)
 }
 
 // Whether one of the first k rows is of a row's frame.
@@ -114,7 +68,7 @@ fn frame_before(words: &[u32], at: RowPlace, k: usize) -> bool
     requires { ⌜ Within (now words) (at .0) × (k ≤ at .0) ⌝ }
     ensures { λ r. ⌜ r ≡ someBelow k (same (frameAt (rowsOf (now (words .entry)))) (at .0)) ⌝ }
 {
-    match rows::latest_of(words, RowPlace(k), rows::frame(words, at)) {
+    match held::latest_of(words, RowPlace(k), held::frame(words, at)) {
         Found::At(_) => true,
         Found::Nothing => false,
     }
@@ -128,7 +82,7 @@ fn row_joins(words: &[u32], at: RowPlace, k: usize) -> bool
     if frame_before(words, at, k) {
         return false;
     }
-    match rows::find_below(words, RowPlace(k), rows::parent(words, at)) {
+    match held::find_below(words, RowPlace(k), held::parent(words, at)) {
         Found::At(_) => true,
         Found::Nothing => false,
     }
@@ -142,11 +96,8 @@ fn keep_row(words: &mut [u32], at: RowPlace, k: usize) -> usize
     if !row_joins(words, at, k) {
         return k;
     }
-    let d = rows::document(words, at);
-    let f = rows::frame(words, at);
-    let up = rows::parent(words, at);
-    let shown = rows::shown(words, at);
-    writes::put_row(words, RowPlace(k), d, f, up, shown);
+    let r = rows::read_row(words, at);
+    writes::put_row(words, RowPlace(k), r.document, r.frame, r.parent, r.shown);
     k + 1
 }
 
@@ -169,7 +120,7 @@ fn place_before(words: &[u32], k: usize, d: DocNo) -> RowPlace
     requires { ⌜ (length (rowsOf (now words)) ≤ capacity (now words)) × (k ≤ length (rowsOf (now words))) × So (someBelow k (isDoc (rowsOf (now words)) (d .0))) ⌝ }
     ensures { λ r. ⌜ (r .0 < k) × (docAt (rowsOf (now (words .entry))) (r .0) ≡ d .0) ⌝ }
 {
-    match rows::find_below(words, RowPlace(k), d) {
+    match held::find_below(words, RowPlace(k), d) {
         Found::At(at) => at,
         Found::Nothing => RowPlace(0),
     }
@@ -190,22 +141,19 @@ fn settle(words: &mut [u32], at: RowPlace, k: usize, n: usize, d: DocNo, next: F
     requires { ⌜ Within (now words) (at .0) × (k < capacity (now words)) × (n ≤ capacity (now words)) × (d .0 < none) ⌝ }
     ensures { λ _. ⌜ now (words .exit) ≡ settled (now (words .entry)) (at .0) k n (d .0) (next .0) ⌝ }
 {
-    let f = rows::frame(words, at);
-    let up = rows::parent(words, at);
+    let r = rows::read_row(words, at);
     writes::put_flag(words, at, 0);
-    writes::put_row(words, RowPlace(k), d, f, up, 1);
+    writes::put_row(words, RowPlace(k), d, r.frame, r.parent, 1);
     clear_rows(words, k + 1, n);
     writes::put_head(words, k + 1, DocNo(d.0 + 1), next);
 }
 
-// Navigates where no refusal is given. The new document.
-fn go_from(words: &mut [u32], from: DocNo) -> DocNo
-    requires { ⌜ NoneGiven (refusals (Call.Navigate (now words) (from .0))) ⌝ }
+// Navigates where no refusal is given and the removal begins at a place. The new document.
+fn go_from(words: &mut [u32], start: RowPlace, from: DocNo) -> DocNo
+    requires { ⌜ NoneGiven (refusals (Call.Navigate (now words) (from .0))) × (start .0 ≡ earliest (upcoming (rowsOf (now words))) (length (rowsOf (now words)))) ⌝ }
     ensures { λ r. ⌜ (r .0 ≡ tableOf (now (words .entry)) .nextDoc) × (now (words .exit) ≡ written (now (words .entry)) (navigated (tableOf (now (words .entry))) (from .0))) ⌝ }
 {
     let n = rows::row_count(words);
-    let t = rows::count_steps(words);
-    let start = removal_start(words, t.position, t.steps);
     let d = rows::next_document(words);
     let next = rows::next_frame_number(words);
     let k = close_gaps(words, start, n);
@@ -220,12 +168,24 @@ pub enum Navigated {
     Refused(Refusal),
 }
 
+// Navigates in a sound record that stands so.
+fn navigate_from(words: &mut [u32], s: Stand, from: DocNo) -> Navigated
+    requires { ⌜ Located (now words) s ⌝ }
+    ensures { λ r. ⌜ outcome (Call.Navigate (now (words .entry)) (from .0)) ≡ record { answer = navigatedIs r; lent = now (words .exit) ∷ [] } ⌝ }
+{
+    let start = s.upcoming;
+    match judge(words, s, from) {
+        Check::No(r) => Navigated::Refused(r),
+        Check::Sound => Navigated::Arrived(go_from(words, start, from)),
+    }
+}
+
 // Navigates from a document.
 pub fn navigate(words: &mut [u32], from: DocNo) -> Navigated
     ensures { λ r. ⌜ outcome (Call.Navigate (now (words .entry)) (from .0)) ≡ record { answer = navigatedIs r; lent = now (words .exit) ∷ [] } ⌝ }
 {
-    match judge(words, from) {
-        Check::No(r) => Navigated::Refused(r),
-        Check::Sound => Navigated::Arrived(go_from(words, from)),
+    match sound::locate(words) {
+        Survey::No(r) => Navigated::Refused(r),
+        Survey::Stands(s) => navigate_from(words, s, from),
     }
 }

@@ -1,3 +1,1 @@
-pub mod Scans
-pub mod Tallies
-pub mod Positions
+pub mod Holds

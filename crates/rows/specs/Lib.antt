@@ -1,3 +1,1 @@
-pub mod Held
-pub mod Found
-pub mod Tally
+pub mod Holds

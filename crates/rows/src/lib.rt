@@ -1,27 +1,24 @@
-// Reading the record: capacity, rows, and the scans over rows that every call is made of.
+// Reading any words as a record: capacity, numbers, rows, and what is found among them. A row is read where the words hold the rows in use; past them every number is 0.
 use base::DocNo;
 use base::FrameNo;
 use base::RowPlace;
+use held::Found;
 ghost use mathlib.Core.Path.{_≡_};
-ghost use Prim.Native.Nat.{_+_, _-_, _/_, _<_, max};
-ghost use mathlib.Core.Bool.{So, cond};
-ghost use lib.ListN.{length};
-ghost use Rattle.rules.specs.Rows.{docAt, frameAt, parentAt, shownAt, isShown, isDoc, inFrame};
-ghost use Rattle.rules.specs.Steps.{same, isStep};
+ghost use lib.ListN.{length, getD};
+ghost use Rattle.rules.specs.Rows.{rowAt, isDoc};
 ghost use Rattle.rules.specs.Words.{capacity, tableOf, rowsOf};
-ghost use Rattle.rows.specs.Held.{Before, Within, RowWord};
-ghost use Rattle.rows.specs.Found.{foundBelow};
-ghost use Rattle.rows.specs.Tally.{Under, tallyOf, lowerOf, frameFrom};
+ghost use Rattle.held.specs.Found.{foundBelow};
+ghost use Rattle.held.specs.Nexts.{lowestOf};
+ghost use Rattle.rows.specs.Holds.{heldRows, readOf, previousOf};
 
-// No parent; all numbers used.
-pub const NONE: u32 = 4294967295;
-
-// Where a scan ended.
-pub enum Found {
-    At(RowPlace),
-    Nothing,
+// A word; 0 past the end.
+fn word(words: &[u32], k: usize) -> u32
+    ensures { λ r. ⌜ r ≡ getD (now (words .entry)) k 0 ⌝ }
+{
+    if k < words.len() { words[k] } else { 0 }
 }
 
+// A word as a count.
 fn wide(x: u32) -> usize
     ensures { λ r. ⌜ r ≡ x ⌝ }
 {
@@ -42,236 +39,98 @@ pub fn capacity(words: &[u32]) -> usize
 
 // The rows in use.
 pub fn row_count(words: &[u32]) -> usize
-    requires { ⌜ 0 < length (now words) ⌝ }
     ensures { λ r. ⌜ r ≡ length (rowsOf (now (words .entry))) ⌝ }
 {
-    wide(words[0])
+    wide(word(words, 0))
 }
 
 // The next document number.
 pub fn next_document(words: &[u32]) -> DocNo
-    requires { ⌜ 1 < length (now words) ⌝ }
     ensures { λ r. ⌜ r .0 ≡ tableOf (now (words .entry)) .nextDoc ⌝ }
 {
-    DocNo(words[1])
+    DocNo(word(words, 1))
 }
 
 // The next frame number.
 pub fn next_frame_number(words: &[u32]) -> FrameNo
-    requires { ⌜ 2 < length (now words) ⌝ }
     ensures { λ r. ⌜ r .0 ≡ tableOf (now (words .entry)) .nextFrame ⌝ }
 {
-    FrameNo(words[2])
+    FrameNo(word(words, 2))
 }
 
-// The document of a row.
-pub fn document(words: &[u32], at: RowPlace) -> DocNo
-    requires { ⌜ Within (now words) (at .0) ⌝ }
-    ensures { λ r. ⌜ r .0 ≡ docAt (rowsOf (now (words .entry))) (at .0) ⌝ }
+// How many rows the words hold: those in use, or none where there is no room for them.
+pub fn held_count(words: &[u32]) -> usize
+    ensures { λ r. ⌜ r ≡ length (heldRows (now (words .entry))) ⌝ }
 {
-    let i = at.0;
-    DocNo(words[3 + 4 * i])
-}
-
-// The frame of a row.
-pub fn frame(words: &[u32], at: RowPlace) -> FrameNo
-    requires { ⌜ Within (now words) (at .0) ⌝ }
-    ensures { λ r. ⌜ r .0 ≡ frameAt (rowsOf (now (words .entry))) (at .0) ⌝ }
-{
-    let i = at.0;
-    FrameNo(words[4 + 4 * i])
-}
-
-// The parent document of a row.
-pub fn parent(words: &[u32], at: RowPlace) -> DocNo
-    requires { ⌜ Within (now words) (at .0) ⌝ }
-    ensures { λ r. ⌜ r .0 ≡ parentAt (rowsOf (now (words .entry))) (at .0) ⌝ }
-{
-    let i = at.0;
-    DocNo(words[5 + 4 * i])
-}
-
-// The shown word of a row.
-pub fn shown(words: &[u32], at: RowPlace) -> u32
-    requires { ⌜ Within (now words) (at .0) ⌝ }
-    ensures { λ r. ⌜ r ≡ shownAt (rowsOf (now (words .entry))) (at .0) ⌝ }
-{
-    let i = at.0;
-    words[6 + 4 * i]
-}
-
-// Whether a row is shown.
-pub fn is_shown(words: &[u32], at: RowPlace) -> bool
-    requires { ⌜ Within (now words) (at .0) ⌝ }
-    ensures { λ r. ⌜ r ≡ isShown (rowsOf (now (words .entry))) (at .0) ⌝ }
-{
-    shown(words, at) == 1
-}
-
-// Whether the row whose frame stands at word k holds a document.
-fn is_document(words: &[u32], k: usize, d: DocNo) -> bool
-    requires { ⌜ Within (now words) (k / 4 - 1) × RowWord k ⌝ }
-    ensures { λ r. ⌜ r ≡ isDoc (rowsOf (now (words .entry))) (d .0) (k / 4 - 1) ⌝ }
-{
-    words[k - 1] == d.0
-}
-
-// The latest row before a place that holds a document.
-pub fn find_below(words: &[u32], at: RowPlace, d: DocNo) -> Found
-    requires { ⌜ Before (now words) (at .0) ⌝ }
-    ensures { λ r. ⌜ r ≡ foundBelow (isDoc (rowsOf (now (words .entry))) (d .0)) (at .0) ⌝ }
-{
-    let mut k = 4 * at.0;
-    while 0 < k {
-        if is_document(words, k, d) {
-            return Found::At(RowPlace(k / 4 - 1));
-        }
-        k -= 4;
+    let n = row_count(words);
+    if capacity(words) < n {
+        return 0;
     }
-    Found::Nothing
+    n
 }
 
-// Whether word k is the frame of a row and has a number.
-fn is_frame(words: &[u32], k: usize, f: FrameNo) -> bool
-    requires { ⌜ Within (now words) (k / 4 - 1) × RowWord k ⌝ }
-    ensures { λ r. ⌜ r ≡ inFrame (rowsOf (now (words .entry))) (f .0) (k / 4 - 1) ⌝ }
-{
-    words[k] == f.0
+// A row: its document, its frame, its parent document, and the word that tells whether it is shown.
+pub struct Row {
+    pub document: DocNo,
+    pub frame: FrameNo,
+    pub parent: DocNo,
+    pub shown: u32,
 }
 
-// The latest row before a place that is of a frame.
-pub fn latest_of(words: &[u32], at: RowPlace, f: FrameNo) -> Found
-    requires { ⌜ Before (now words) (at .0) ⌝ }
-    ensures { λ r. ⌜ r ≡ foundBelow (inFrame (rowsOf (now (words .entry))) (f .0)) (at .0) ⌝ }
+// A row; four zeros past those held.
+pub fn read_row(words: &[u32], at: RowPlace) -> Row
+    ensures { λ r. ⌜ r ≡ readOf (rowAt (heldRows (now (words .entry))) (at .0)) ⌝ }
 {
-    let mut k = 4 * at.0;
-    while 0 < k {
-        if is_frame(words, k, f) {
-            return Found::At(RowPlace(k / 4 - 1));
-        }
-        k -= 4;
+    if held_count(words) <= at.0 {
+        return Row {
+            document: DocNo(0),
+            frame: FrameNo(0),
+            parent: DocNo(0),
+            shown: 0,
+        };
     }
-    Found::Nothing
+    let document = held::document(words, at);
+    let frame = held::frame(words, at);
+    let parent = held::parent(words, at);
+    let shown = held::shown(words, at);
+    Row {
+        document,
+        frame,
+        parent,
+        shown,
+    }
 }
 
-// The row before a row in its frame, where no earlier row has a frame number above `high`: a higher one needs no scan.
-pub fn previous_under(words: &[u32], at: RowPlace, high: FrameNo) -> Found
-    requires { ⌜ Within (now words) (at .0) × Under (frameAt (rowsOf (now words))) (at .0) (high .0) ⌝ }
-    ensures { λ r. ⌜ r ≡ foundBelow (same (frameAt (rowsOf (now (words .entry)))) (at .0)) (at .0) ⌝ }
+// The row of a document.
+pub fn find(words: &[u32], d: DocNo) -> Found
+    ensures { λ r. ⌜ r ≡ foundBelow (isDoc (heldRows (now (words .entry))) (d .0)) (length (heldRows (now (words .entry)))) ⌝ }
 {
-    let f = frame(words, at);
-    if high.0 < f.0 {
+    let n = held_count(words);
+    if n == 0 {
         return Found::Nothing;
     }
-    latest_of(words, at, f)
+    held::find_below(words, RowPlace(n), d)
 }
 
-// The higher of two frame numbers.
-pub fn higher(a: FrameNo, b: FrameNo) -> FrameNo
-    ensures { λ r. ⌜ r .0 ≡ max (a .0) (b .0) ⌝ }
+// The row before a row in its frame.
+pub fn previous(words: &[u32], at: RowPlace) -> Found
+    ensures { λ r. ⌜ r ≡ previousOf (heldRows (now (words .entry))) (at .0) ⌝ }
 {
-    if a.0 < b.0 { b } else { a }
-}
-
-// Whether a row is a step, where no earlier row has a frame number above `high`.
-pub fn is_step(words: &[u32], at: RowPlace, high: FrameNo) -> bool
-    requires { ⌜ Within (now words) (at .0) × Under (frameAt (rowsOf (now words))) (at .0) (high .0) ⌝ }
-    ensures { λ r. ⌜ r ≡ isStep (rowsOf (now (words .entry))) (at .0) ⌝ }
-{
-    match previous_under(words, at, high) {
-        Found::At(_) => true,
-        Found::Nothing => false,
+    let n = held_count(words);
+    if n <= at.0 {
+        return Found::Nothing;
     }
+    held::latest_of(words, at, held::frame(words, at))
 }
 
-// Steps so far, how many of them up to the last shown one, and the highest frame number so far.
-pub struct Tally {
-    pub steps: usize,
-    pub position: usize,
-    pub high: FrameNo,
-}
-
-// One number or the other.
-fn either(first: bool, a: usize, b: usize) -> usize
-    ensures { λ r. ⌜ r ≡ cond first a b ⌝ }
-{
-    if first { a } else { b }
-}
-
-// The tally with a step more.
-fn tally_step(words: &[u32], at: RowPlace, t: Tally) -> Tally
-    requires { ⌜ Within (now words) (at .0) × (t ≡ tallyOf (rowsOf (now words)) (at .0)) × So (isStep (rowsOf (now words)) (at .0)) ⌝ }
-    ensures { λ r. ⌜ r ≡ tallyOf (rowsOf (now (words .entry))) (at .0 + 1) ⌝ }
-{
-    let steps = t.steps + 1;
-    let position = either(is_shown(words, at), steps, t.position);
-    let high = t.high;
-    Tally {
-        steps,
-        position,
-        high,
-    }
-}
-
-// The tally with one row more.
-fn tally_row(words: &[u32], at: RowPlace, t: Tally) -> Tally
-    requires { ⌜ Within (now words) (at .0) × (t ≡ tallyOf (rowsOf (now words)) (at .0)) ⌝ }
-    ensures { λ r. ⌜ r ≡ tallyOf (rowsOf (now (words .entry))) (at .0 + 1) ⌝ }
-{
-    if is_step(words, at, t.high) {
-        return tally_step(words, at, t);
-    }
-    let high = higher(t.high, frame(words, at));
-    Tally {
-        steps: t.steps,
-        position: t.position,
-        high,
-    }
-}
-
-// Steps and position of the rows in use, in one pass.
-pub fn count_steps(words: &[u32]) -> Tally
-    requires { ⌜ Before (now words) 0 × (0 < length (now words)) ⌝ }
-    ensures { λ r. ⌜ r ≡ tallyOf (rowsOf (now (words .entry))) (length (rowsOf (now (words .entry)))) ⌝ }
-{
-    let n = row_count(words);
-    let mut t = Tally {
-        steps: 0,
-        position: 0,
-        high: FrameNo(0),
-    };
-    let mut i = 0;
-    while i < n {
-        t = tally_row(words, RowPlace(i), t);
-        i += 1;
-    }
-    t
-}
-
-// A frame number, if it is from the bound on and lower than the best so far.
-pub fn lower(f: FrameNo, from: FrameNo, best: FrameNo) -> FrameNo
-    ensures { λ r. ⌜ r .0 ≡ lowerOf (f .0) (from .0) (best .0) ⌝ }
-{
-    if f.0 < from.0 {
-        return best;
-    }
-    if best.0 <= f.0 {
-        return best;
-    }
-    f
-}
-
-// The lowest frame number of the record from a bound on; the next frame number where there is none.
+// The lowest frame number of the rows held from a bound on; the next frame number where there is none.
 pub fn next_frame(words: &[u32], from: FrameNo) -> FrameNo
-    requires { ⌜ Before (now words) 0 × (2 < length (now words)) ⌝ }
-    ensures { λ r. ⌜ r .0 ≡ frameFrom (tableOf (now (words .entry))) (from .0) ⌝ }
+    ensures { λ r. ⌜ r .0 ≡ lowestOf (heldRows (now (words .entry))) (length (heldRows (now (words .entry)))) (from .0) (tableOf (now (words .entry)) .nextFrame) ⌝ }
 {
-    let n = row_count(words);
-    let mut best = next_frame_number(words);
-    let mut i = 0;
-    while i < n {
-        best = lower(frame(words, RowPlace(i)), from, best);
-        i += 1;
+    let top = next_frame_number(words);
+    let n = held_count(words);
+    if 0 < n {
+        return held::lowest_of(words, RowPlace(n), from, top);
     }
-    best
+    top
 }

@@ -4,7 +4,7 @@ use Prim.Native.Nat.{ℕ, _+_, _*_}
 use mathlib.Core.Bool.{Bool, false}
 use mathlib.Core.List.{List, [], _∷_, _++_, map, flatMap}
 use mathlib.Core.Path.{_≡_, refl}
-use lib.IntN.{ℤ, pos, negℤ}
+use lib.IntN.{pos, negℤ}
 use lib.ListN.{length, getD, replicate}
 use Rattle.rules.specs.Below.{someBelow, allBelow, count, earliest, latest, sum, tab, gather}
 use Rattle.rules.specs.Rows.{Row, Table, none, docAt, isShown, inRecord, place, isFrame, withFlags, climb}

@@ -1,5 +1,5 @@
 -- The calls: what is lent to each, when each is refused, and what it answers and leaves otherwise.
-use Prim.Native.Nat.{ℕ, suc, _/_}
+use Prim.Native.Nat.{ℕ, _/_}
 use mathlib.Core.Bool.{Bool, true, false, not, _||_, So, cond}
 use mathlib.Core.List.{List, [], _∷_}
 use mathlib.Core.Logic.{_⊎_}
@@ -7,7 +7,7 @@ use mathlib.Core.Path.{_≡_}
 use lib.Dec.{eqb, leb, ltb}
 use lib.IntN.{ℤ, pos, negsuc, _+ℤ_, natAbs}
 use lib.ListN.{length}
-use Rattle.rules.specs.Rows.{Row, Table, none, inRecord, flag}
+use Rattle.rules.specs.Rows.{Row, none, inRecord, flag}
 use Rattle.rules.specs.Steps.{position, steps, visible}
 use Rattle.rules.specs.Moves.{freshTable, opened, cleared, navigated, traversed, changes}
 use Rattle.rules.specs.Words.{put, capacity, tableOf, rowsOf, written}

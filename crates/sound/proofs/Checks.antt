@@ -1,12 +1,12 @@
 -- What the examination tells its callers: the first two rungs of their ladders. Assumes nothing.
-use Prim.Native.Nat.{ℕ, _≤_, _<_}
-use mathlib.Core.Bool.{Bool, true, false}
+use Prim.Native.Nat.{ℕ, _≤_}
+use mathlib.Core.Bool.{true, false, cond}
 use mathlib.Core.List.{List, _∷_}
 use mathlib.Core.Logic.{inl, inr}
 use mathlib.Core.Path.{_≡_, refl, sym, ap, subst, _∙_}
 use native.Mathlib.Omega.{arith}
 use lib.ListN.{length}
-use borrow.Author.Tests.{lt-ltb, le-ltb, ltb-false}
+use borrow.Author.Tests.{ltb-false}
 use Rattle.base.specs.declared.Refusal.{Refusal}
 use Rattle.base.specs.declared.Refusal.the-variants.{ShortRecord, Unsound}
 use Rattle.base.specs.Numbers.{numberOf}
@@ -19,38 +19,65 @@ use Rattle.laws.proofs.Reflect.{sound-is}
 use Rattle.sound.specs.Check.{checkOf, Examined, Judged}
 use Rattle.sound.specs.declared.Check.{Check}
 use Rattle.sound.specs.declared.Check.the-variants.{Sound as Fine, No}
+use Rattle.sound.specs.Survey.{standOf, surveyOf, Located}
+use Rattle.sound.specs.declared.Stand.{Stand}
+use Rattle.sound.specs.declared.Survey.{Survey}
+use Rattle.sound.specs.declared.Survey.the-variants.{Stands, No as Survey·No}
 
-module _ (words : List ℕ) where
-  pub check-short : length words < 7 → No ShortRecord ≡ checkOf words
-  unfolding checkOf
-  check-short l = rw (lt-ltb _ _ l) refl
+-- Refusals 1 and 2, or what is fine: as the answer of any type that can refuse.
+module _ {A : Type 0} (no : Refusal → A) (fine : A) (words : List ℕ) where
+  abbrev checked : A
+  checked = cond (short words) (no ShortRecord) (cond (unsound words) (no Unsound) fine)
 
-  pub check-unsound : (s : Bool) → 7 ≤ length words → s ≡ sound? words → s ≡ false → No Unsound ≡ checkOf words
-  unfolding checkOf
-  check-unsound s l e f = rw (le-ltb _ _ l, sym e ∙ f) refl
+  pub checked-short : short words ≡ true → no ShortRecord ≡ checked
+  checked-short t = rw t refl
 
-  pub check-fine : (s : Bool) → 7 ≤ length words → s ≡ sound? words → s ≡ true → Fine ≡ checkOf words
-  unfolding checkOf
-  check-fine s l e t = rw (le-ltb _ _ l, sym e ∙ t) refl
+  pub checked-unsound : short words ≡ false → sound? words ≡ false → no Unsound ≡ checked
+  checked-unsound o f = rw (o, f) refl
+
+  pub checked-fine : short words ≡ false → sound? words ≡ true → fine ≡ checked
+  checked-fine o t = rw (o, t) refl
 
   -- Refused: by the first two rungs, whatever follows.
-  pub check-given : (rest : List Rung) (k : Check) (r : Refusal) → k ≡ checkOf words → k ≡ No r → Given (numberOf r) (1 when short words ∷ 2 when unsound words ∷ rest)
-  unfolding checkOf Given
-  check-given rest k r e f =
+  checked-given : ((a b : Refusal) → no a ≡ no b → a ≡ b) → ((a : Refusal) → fine ≡ no a → ⊥) → (rest : List Rung) (k : A) (r : Refusal) → k ≡ checked → k ≡ no r →
+      Given (numberOf r) (1 when short words ∷ 2 when unsound words ∷ rest)
+  unfolding Given
+  checked-given same other rest k r e f =
       test (short words)
-      (λ t. let q : No ShortRecord ≡ No r = rw t at (sym e ∙ f) in let z : ShortRecord ≡ r = cc in inl (t, ap numberOf z))
+      (λ t. inl (t, ap numberOf (same ShortRecord r (rw t at (sym e ∙ f)))))
       (λ o. test (sound? words)
-      (λ t. let q : Fine ≡ No r = rw (o, t) at (sym e ∙ f) in absurd (let z : _≡_ {A = ℕ} 0 1 = cc in omega arith))
-      (λ t. let q : No Unsound ≡ No r = rw (o, t) at (sym e ∙ f) in let z : Unsound ≡ r = cc in inr (o, inl (rw t refl, ap numberOf z))))
+      (λ t. absurd (other r (rw (o, t) at (sym e ∙ f))))
+      (λ t. inr (o, inl (rw t refl, ap numberOf (same Unsound r (rw (o, t) at (sym e ∙ f)))))))
+
+  -- Not refused: the record is examined, and the answer is what is fine.
+  checked-passes : (k y : A) → ((a : Refusal) → no a ≡ y → ⊥) → k ≡ checked → k ≡ y → Examined words × (fine ≡ y)
+  checked-passes k y other e f =
+      test (short words)
+      (λ t. absurd (other ShortRecord (rw t at (sym e ∙ f))))
+      (λ o. test (sound? words)
+      (λ t. (record { long = o; passes = t }, rw (o, t) at (sym e ∙ f)))
+      (λ t. absurd (other Unsound (rw (o, t) at (sym e ∙ f)))))
+
+module _ (words : List ℕ) where
+  pub check-given : (rest : List Rung) (k : Check) (r : Refusal) → k ≡ checkOf words → k ≡ No r → Given (numberOf r) (1 when short words ∷ 2 when unsound words ∷ rest)
+  unfolding checkOf
+  check-given = checked-given No Fine words (λ a b q. cc) (λ a q. let z : _≡_ {A = ℕ} 0 1 = cc in omega arith)
 
   pub check-passes : (k : Check) → k ≡ checkOf words → k ≡ Fine → Examined words
   unfolding checkOf
-  check-passes k e f =
-      test (short words)
-      (λ t. let q : No ShortRecord ≡ Fine = rw t at (sym e ∙ f) in absurd (let z : _≡_ {A = ℕ} 0 1 = cc in omega arith))
-      (λ o. test (sound? words)
-      (λ t. record { long = o; passes = t })
-      (λ t. let q : No Unsound ≡ Fine = rw (o, t) at (sym e ∙ f) in absurd (let z : _≡_ {A = ℕ} 0 1 = cc in omega arith)))
+  check-passes k e f = checked-passes No Fine words k Fine (λ a q. let z : _≡_ {A = ℕ} 0 1 = cc in omega arith) e f .0
+
+  -- Refused: by the first two rungs, whatever follows.
+  pub survey-given : (rest : List Rung) (k : Survey) (r : Refusal) → k ≡ surveyOf words → k ≡ Survey·No r → Given (numberOf r) (1 when short words ∷ 2 when unsound words ∷ rest)
+  unfolding surveyOf
+  survey-given = checked-given Survey·No (Stands (standOf (rowsOf words))) words (λ a b q. cc) (λ a q. let z : _≡_ {A = ℕ} 0 1 = cc in omega arith)
+
+  -- Not refused: the record is examined, and the answer is where its window stands.
+  pub survey-stands : (k : Survey) (s : Stand) → k ≡ surveyOf words → k ≡ Stands s → Located words s
+  unfolding surveyOf
+  survey-stands k s e f =
+      let r = checked-passes Survey·No (Stands (standOf (rowsOf words))) words k (Stands s) (λ a q. let z : _≡_ {A = ℕ} 0 1 = cc in omega arith) e f in
+      let q : Stands (standOf (rowsOf words)) ≡ Stands s = r .1 in (r .0, cc)
 
 -- What an examined record gives.
 module _ (words : List ℕ) (e : Examined words) where

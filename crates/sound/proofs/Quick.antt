@@ -9,9 +9,9 @@ use native.Mathlib.Omega.{arith}
 use lib.Dec.{eqb, ltb}
 use lib.ListN.{length}
 use borrow.Author.Tests.{ltb-true, lt-ltb, leb-true, eqb-true, eq-eqb, ne-eqb, not-true}
-use Rattle.rules.specs.Below.{someBelow, count, latest}
+use Rattle.rules.specs.Below.{someBelow, count, earliest, latest}
 use Rattle.rules.specs.Rows.{Row, Table, none, docAt, frameAt, parentAt, shownAt, isShown, isDoc}
-use Rattle.rules.specs.Steps.{same, step, isStep, reached}
+use Rattle.rules.specs.Steps.{same, step, isStep, reached, upcoming}
 use Rattle.rules.specs.Moves.{rowBefore}
 use Rattle.rules.specs.Sound.{S1, S2, S4, S5, S6, S7, s1?, SoundTable, soundTable?}
 use Rattle.laws.proofs.Tests.{test, clash, off, same-tests, by-lt, by-order, some-in, some-out}
@@ -19,6 +19,7 @@ use Rattle.laws.proofs.Tests.{count-zero, count-yes, count-no, count-split, one
 use Rattle.laws.proofs.Frames.{step-in, first, reach-in, reach-out}
 use Rattle.laws.proofs.Central.{only-shown}
 use Rattle.laws.proofs.Tree.{rising-all}
+use Rattle.held.proofs.Nexts.{earliest-out, earliest-in}
 use Rattle.laws.proofs.Reflect.{Ref, ref-lt, ref-le, ref-eq, ref-so, ref-map, ref-and, ref-all, sound-table-is}
 use Rattle.sound.specs.Quick.{ordered, linked, comes, calm, plain, joined, rowFine, quick?}
 
@@ -78,6 +79,16 @@ module _ (rows : List Row) where
   comes-in a b l e s =
       let r = place-after (frameAt rows) a b l e in
       (r .0, r .1, simp and-eq-true-iff (r .2, ap (isShown rows) (r .3) ∙ s))
+
+  -- A shown row of i's frame, and what comes before an upcoming step.
+  abbrev Shown : ℕ → Type 0
+  Shown i = (k : ℕ) × (k < length rows) × (frameAt rows k ≡ frameAt rows i) × So (isShown rows k)
+
+  upcoming-comes : (i : ℕ) → So (upcoming rows i) → Shown i → (k : ℕ) × (k ≤ i) × So (comes rows k)
+  upcoming-comes i u r =
+      by-lt (r .0) i
+      (λ m. comes-in (r .0) i m (r .2) (r .3))
+      (λ m. absurd (clash (reach-in _ _ (isShown rows) m (r .1) (r .2) (r .3)) (not-true _ ((simp and-eq-true-iff at u) .1))))
 
   comes-out : (i : ℕ) → So (comes rows i) → So (isStep rows i) × So (isShown rows (rowBefore rows i))
   unfolding comes
@@ -169,17 +180,41 @@ sound-linked rows some s4 s5 i l =
     top = ⊎-elim (λ e. e) (λ r. absurd (not-suc-le-zero (r .1))) (s4 .placed 0 some)
 
 module _ (rows : List Row) (s6 : S6 rows) (s7 : S7 rows) where
-  sound-calm : (i : ℕ) → i < length rows → So (calm rows i)
-  sound-calm i l =
-      calm-is rows i .1 (λ s t k m c.
+  -- What comes is upcoming.
+  comes-upcoming : (k : ℕ) → k < length rows → So (comes rows k) → So (upcoming rows k)
+  comes-upcoming k l c =
       let u = comes-out rows k c in
       let b = row-before rows k (u .0) in
       let f = off (reached rows k) (λ h.
       let r = reach-out _ _ _ k h in
       let e = only-shown rows s6 s7 (rowBefore rows k) (r .0) (omega arith) (r .2) (r .3 ∙ sym (b .1)) (u .1) (r .4) in
       omega arith) in
-      let z = s7 .later k i (omega arith) l (simp and-eq-true-iff (u .0, rw f refl)) s t in
+      simp and-eq-true-iff (u .0, rw f refl)
+
+  sound-calm : (i : ℕ) → i < length rows → So (calm rows i)
+  sound-calm i l =
+      calm-is rows i .1 (λ s t k m c.
+      let z = s7 .later k i (omega arith) l (comes-upcoming k (omega arith) c) s t in
       omega arith)
+
+  -- A frame's shown row.
+  shown-one : (i : ℕ) → i < length rows → Shown rows i
+  shown-one i l =
+      let r = one-out _ (length rows) (s6 .one i l) .0 in
+      let t = simp and-eq-true-iff at (r .2) in
+      (r .0, r .1, eqb-true _ _ (t .0), t .1)
+
+  -- The first row that comes is the first upcoming step.
+  pub comes-start : earliest (comes rows) (length rows) ≡ earliest (upcoming rows) (length rows)
+  comes-start =
+      let o = earliest-out (comes rows) (length rows) in
+      let w = o .within in
+      earliest-in (upcoming rows) (length rows) (earliest (comes rows) (length rows)) (record {
+        within = w;
+        passes = λ l. comes-upcoming (earliest (comes rows) (length rows)) l (o .passes l);
+        none-before = λ m l. off (upcoming rows m) (λ t.
+            let c = upcoming-comes rows m t (shown-one m (omega arith)) in clash (c .2) (o .none-before (c .0) (omega arith)));
+      })
 
   -- Each frame's first row stands against its shown one.
   sound-even : Even rows
@@ -190,10 +225,7 @@ module _ (rows : List Row) (s6 : S6 rows) (s7 : S7 rows) where
       (λ i l s. let r = first fr i in (r .0, omega arith, r .2, rw (r .3) refl))
       (λ i j l m e s t. let q = only-shown rows s6 s7 i j (omega arith) m (sym e) s t in omega arith) in
       let b = no-more n n fr (λ i. not (isStep rows i)) (isShown rows)
-      (λ i l s.
-      let r = one-out _ n (s6 .one i l) .0 in
-      let t = simp and-eq-true-iff at (r .2) in
-      (r .0, r .1, eqb-true _ _ (t .0), t .1))
+      (λ i l s. shown-one i l)
       (λ i j l m e s t. clash (step-in fr l e) (not-true _ t)) in
       omega arith
 
@@ -247,7 +279,7 @@ module _ (rows : List Row) (fine : (i : ℕ) → i < length rows → So (calm ro
       calm-is rows j .0 (fine j m) (step-in (frameAt rows) l e) t (c .0) (c .1) (c .2)
 
   module _ (even : Even rows) where
-    shown : (i : ℕ) → i < length rows → (k : ℕ) × (k < length rows) × (frameAt rows k ≡ frameAt rows i) × So (isShown rows k)
+    shown : (i : ℕ) → i < length rows → Shown rows i
     shown i l =
         let n = length rows in
         let fr = frameAt rows in
@@ -282,14 +314,8 @@ module _ (rows : List Row) (fine : (i : ℕ) → i < length rows → So (calm ro
     quick-S7 =
         record {
           later = λ i j a b u s t.
-              let v = simp and-eq-true-iff at u in
-              let r = shown i a in
-              by-lt j i (λ l. l) (λ l.
-              by-lt (r .0) i
-              (λ m.
-              let c = comes-in rows (r .0) i m (r .2) (r .3) in
-              absurd (calm-is rows j .0 (fine j b) s t (c .0) (omega arith) (c .2)))
-              (λ m. absurd (clash (reach-in _ _ (isShown rows) m (r .1) (r .2) (r .3)) (not-true _ (v .1)))));
+              let c = upcoming-comes rows i u (shown i a) in
+              by-lt j i (λ l. l) (λ l. absurd (calm-is rows j .0 (fine j b) s t (c .0) (omega arith) (c .2)));
         }
 
 -- THE QUICK TEST IS THE TEST OF THE RULES

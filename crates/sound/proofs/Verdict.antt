@@ -2,7 +2,7 @@
 use Prim.Native.Nat.{ℕ, _-_, _≤_, _<_}
 use mathlib.Core.Bool.{Bool, true, false, _&&_, and-eq-true-iff}
 use mathlib.Core.List.{List}
-use mathlib.Core.Path.{_≡_, refl, sym, _∙_}
+use mathlib.Core.Path.{_≡_, refl, sym, subst, _∙_}
 use native.Mathlib.Omega.{arith}
 use lib.Dec.{ltb}
 use lib.ListN.{length}
@@ -11,44 +11,55 @@ use Rattle.rules.specs.Below.{allBelow}
 use Rattle.rules.specs.Rows.{Row, none, docAt}
 use Rattle.rules.specs.Words.{capacity, tableOf, rowsOf}
 use Rattle.rules.specs.Sound.{S1, s8?, soundTable?, sound?}
-use Rattle.laws.proofs.Tests.{test, off}
+use Rattle.laws.proofs.Tests.{test, off, and-true}
 use Rattle.laws.proofs.Reflect.{sound-is}
 use Rattle.sound.specs.Quick.{rowFine, evenly, quick?}
+use Rattle.sound.specs.Pass.{Passed, Tells}
+use Rattle.sound.specs.declared.Pass.{Pass}
+use Rattle.sound.specs.declared.Tested.{Tested}
+use Rattle.sound.specs.declared.Tested.the-variants.{Fails, Holds}
 use Rattle.sound.proofs.Quick.{quick-is}
 
 module _ (rows : List Row) (nextDoc nextFrame n a b : ℕ) (named : a ≡ docAt rows (n - 1)) (all : n ≡ length rows) (next : b ≡ nextDoc) where
   last-is : ltb a b ≡ ltb (docAt rows (length rows - 1)) nextDoc
   last-is = rw (named, all, next) refl
 
-  pub quick-stops : ltb a b ≡ false → false ≡ quick? rows nextDoc nextFrame
+  pub quick-stops : ltb a b ≡ false → quick? rows nextDoc nextFrame ≡ false
   unfolding quick?
   quick-stops f = rw (sym last-is ∙ f) (test (allBelow (length rows) (rowFine rows nextFrame)) (λ t. rw t refl) (λ t. rw t refl))
 
-  pub quick-goes : (r : Bool) → ltb a b ≡ true → r ≡ (allBelow (length rows) (rowFine rows nextFrame) && evenly rows) → r ≡ quick? rows nextDoc nextFrame
+  pub quick-goes : (r : Tested) → ltb a b ≡ true → Tells rows (allBelow (length rows) (rowFine rows nextFrame) && evenly rows) r → Tells rows (quick? rows nextDoc nextFrame) r
   unfolding quick?
-  quick-goes r t e = e ∙ rw (sym last-is ∙ t) (test (allBelow (length rows) (rowFine rows nextFrame)) (λ t. rw t refl) (λ t. rw t refl))
+  quick-goes r t = subst (λ x. Tells rows x r) (rw (sym last-is ∙ t) (test (allBelow (length rows) (rowFine rows nextFrame)) (λ t. rw t refl) (λ t. rw t refl)))
+
+-- What was tested, by what the code found.
+module _ (rows : List Row) (b : Bool) (r : Tested) (told : Tells rows b r) where
+  pub told-fails : r ≡ Fails → b ≡ false
+  told-fails e = subst (Tells rows b) e told
+
+  pub told-holds : (p : Pass) → r ≡ Holds p → (b ≡ true) × Passed rows (length rows) p
+  told-holds p e = subst (Tells rows b) e told
 
 module _ (words : List ℕ) where
-  unsound : (S1 (capacity words) (rowsOf words) → ⊥) → false ≡ sound? words
-  unsound h = sym (off (sound? words) (λ s. h (sound-is words .0 s .table .s1)))
+  unsound : (S1 (capacity words) (rowsOf words) → ⊥) → sound? words ≡ false
+  unsound h = off (sound? words) (λ s. h (sound-is words .0 s .table .s1))
 
-  pub sound-no-room : (c : ℕ) → c ≡ capacity words → c ≡ 0 → false ≡ sound? words
+  pub sound-no-room : (c : ℕ) → c ≡ capacity words → c ≡ 0 → sound? words ≡ false
   sound-no-room c e z = unsound (λ s. let a = s .some in let b = s .fits in omega arith)
 
-  pub sound-empty : (n : ℕ) → n ≡ length (rowsOf words) → n ≡ 0 → false ≡ sound? words
+  pub sound-empty : (n : ℕ) → n ≡ length (rowsOf words) → n ≡ 0 → sound? words ≡ false
   sound-empty n e z = unsound (λ s. let a = s .some in omega arith)
 
-  pub sound-over : (c n : ℕ) → c ≡ capacity words → n ≡ length (rowsOf words) → c < n → false ≡ sound? words
+  pub sound-over : (c n : ℕ) → c ≡ capacity words → n ≡ length (rowsOf words) → c < n → sound? words ≡ false
   sound-over c n e f l = unsound (λ s. let b = s .fits in omega arith)
 
-  module _ (some : 1 ≤ length (rowsOf words)) (fits : length (rowsOf words) ≤ capacity words) (word : tableOf words .nextDoc ≤ none) where
-    table-is : (q : Bool) → q ≡ quick? (rowsOf words) (tableOf words .nextDoc) (tableOf words .nextFrame) → q ≡ soundTable? (capacity words) (tableOf words)
-    table-is q e = e ∙ quick-is (capacity words) (tableOf words) (simp and-eq-true-iff (le-leb _ _ some, le-leb _ _ fits)) word
+  pub sound-stops : (z : Bool) → z ≡ s8? words → z ≡ false → sound? words ≡ false
+  unfolding sound?
+  sound-stops z e f = rw (sym e ∙ f) (test (soundTable? (capacity words) (tableOf words)) (λ t. rw t refl) (λ t. rw t refl))
 
-    pub sound-stops : (q : Bool) → q ≡ quick? (rowsOf words) (tableOf words .nextDoc) (tableOf words .nextFrame) → q ≡ false → false ≡ sound? words
-    unfolding sound?
-    sound-stops q e f = rw (sym (table-is q e) ∙ f) refl
-
-    pub sound-goes : (q r : Bool) → q ≡ quick? (rowsOf words) (tableOf words .nextDoc) (tableOf words .nextFrame) → q ≡ true → r ≡ s8? words → r ≡ sound? words
-    unfolding sound?
-    sound-goes q r e t h = rw (sym (table-is q e) ∙ t) h
+  pub sound-goes : (c n : ℕ) (z : Bool) (r : Tested) → c ≡ capacity words → n ≡ length (rowsOf words) → (n ≡ 0 → ⊥) → n ≤ c → tableOf words .nextDoc ≤ none → z ≡ s8? words → z ≡ true →
+      Tells (rowsOf words) (quick? (rowsOf words) (tableOf words .nextDoc) (tableOf words .nextFrame)) r → Tells (rowsOf words) (sound? words) r
+  unfolding sound?
+  sound-goes c n z r ec en some fits word e t =
+      let q = quick-is (capacity words) (tableOf words) (simp and-eq-true-iff (le-leb 1 (length (rowsOf words)) (omega arith), le-leb (length (rowsOf words)) (capacity words) (omega arith))) word in
+      subst (λ x. Tells (rowsOf words) x r) (q ∙ rw (sym e ∙ t) (sym (and-true _)))

@@ -6,7 +6,7 @@ use Rattle.base.specs.declared.Refusal.the-variants.{ShortRecord, Unsound}
 use mathlib.Core.Path.{_≡_}
 use Rattle.rules.specs.Sound.{sound?}
 use Rattle.base.specs.Numbers.{numberOf}
-use Rattle.rules.specs.Calls.{Call, short, unsound, refusals, Given, NoneGiven}
+use Rattle.rules.specs.Calls.{Call, Rung, short, unsound, refusals, Given, NoneGiven}
 use Rattle.sound.specs.declared.Check.{Check}
 use Rattle.sound.specs.declared.Check.the-variants.{Sound, No}
 
@@ -18,7 +18,11 @@ pub record Examined (words : List ℕ) : Type 0 where
   pub long : short words ≡ false
   pub passes : So (sound? words)
 
--- What a judge of a call says: no refusal of the table is given, or this one is.
+-- What a judge of a table says: none of its refusals is given, or this one is.
+abbrev pub Settles : List Rung → Check → Type 0
+Settles rungs Sound = NoneGiven rungs
+Settles rungs (No r) = Given (numberOf r) rungs
+
+-- The same of a call.
 abbrev pub Judged : Call → Check → Type 0
-Judged c Sound = NoneGiven (refusals c)
-Judged c (No r) = Given (numberOf r) (refusals c)
+Judged c = Settles (refusals c)

@@ -1,3 +1,4 @@
 pub mod Quick
 pub mod Pass
 pub mod Check
+pub mod Survey

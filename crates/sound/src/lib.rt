@@ -1,4 +1,4 @@
-// The test of S1 to S8 on arbitrary words, in one pass over the rows, with no array and no recursion.
+// The test of S1 to S8 on arbitrary words, in one pass over the rows, with no array and no recursion. The pass tells besides where the window stands.
 //
 // What bounds it, for n rows: each row looks back for the row before it in its frame and stops there, and not at all where its frame number is above every earlier one;
 // a frame's first row looks back for its parent and stops there, and not at all where that is the parent found last. So at most two triangular scans (n * n / 2 row visits
@@ -7,23 +7,26 @@ use base::DocNo;
 use base::FrameNo;
 use base::Refusal;
 use base::RowPlace;
-use rows::Found;
-use rows::NONE;
+use held::Found;
+use held::NONE;
 ghost use mathlib.Core.Path.{_≡_};
 ghost use mathlib.Core.Bool.{true, false, _&&_, cond};
-ghost use Prim.Native.Nat.{_+_, _<_, _≤_};
+ghost use Prim.Native.Nat.{_+_, _-_, _<_, _≤_};
 ghost use lib.ListN.{length};
 ghost use Rattle.rules.specs.Below.{someBelow, allBelow};
-ghost use Rattle.rules.specs.Rows.{parentAt, shownAt, isDoc};
+ghost use Rattle.rules.specs.Rows.{docAt, parentAt, shownAt, isDoc};
 ghost use Rattle.rules.specs.Steps.{isStep};
 ghost use Rattle.rules.specs.Words.{capacity, tableOf, rowsOf};
 ghost use Rattle.rules.specs.Sound.{s8?, sound?};
-ghost use Rattle.rows.specs.Held.{Within};
+ghost use Rattle.rules.specs.Calls.{short};
+ghost use Rattle.held.specs.Held.{Within};
 ghost use Rattle.sound.specs.Quick.{bounded, plain, rowFine, evenly, quick?};
-ghost use Rattle.sound.specs.Pass.{Passed, Onward, StepAfter};
+ghost use Rattle.sound.specs.Pass.{Passed, Onward, StepAfter, Tells};
 ghost use Rattle.sound.specs.Check.{checkOf};
+ghost use Rattle.sound.specs.Survey.{standOf, surveyOf};
 
-// What a pass knows of the rows behind it: all joined rightly, some upcoming, how many shown, how many frames, a bound on the frame numbers, the parent found last.
+// What a pass knows of the rows behind it: all joined rightly, some upcoming, how many shown, how many frames, a bound on the frame numbers, the parent found last;
+// how many rows there are from the first upcoming one on, how many of them are the first of a frame, and the latest step before them.
 pub struct Pass {
     pub fine: bool,
     pub late: bool,
@@ -31,6 +34,9 @@ pub struct Pass {
     pub frames: usize,
     pub high: FrameNo,
     pub known: DocNo,
+    pub ahead: usize,
+    pub opened: usize,
+    pub last: RowPlace,
 }
 
 // Whether the parent of a row is the document of an earlier one, where `known` is.
@@ -38,11 +44,11 @@ fn has_parent(words: &[u32], at: RowPlace, known: DocNo) -> bool
     requires { ⌜ Within (now words) (at .0) × (someBelow (at .0) (isDoc (rowsOf (now words)) (known .0)) ≡ true) ⌝ }
     ensures { λ r. ⌜ r ≡ someBelow (at .0) (isDoc (rowsOf (now (words .entry))) (parentAt (rowsOf (now (words .entry))) (at .0))) ⌝ }
 {
-    let up = rows::parent(words, at);
+    let up = held::parent(words, at);
     if up.0 == known.0 {
         return true;
     }
-    match rows::find_below(words, at, up) {
+    match held::find_below(words, at, up) {
         Found::At(_) => true,
         Found::Nothing => false,
     }
@@ -53,16 +59,15 @@ fn is_bounded(words: &[u32], at: RowPlace, top: FrameNo) -> bool
     requires { ⌜ Within (now words) (at .0) ⌝ }
     ensures { λ r. ⌜ r ≡ bounded (rowsOf (now (words .entry))) (top .0) (at .0) ⌝ }
 {
-    (rows::frame(words, at).0 < top.0) & (rows::shown(words, at) <= 1)
+    (held::frame(words, at).0 < top.0) & (held::shown(words, at) <= 1)
 }
 
 // Whether a row that is not the first is so, and its document is above that of the row before.
-fn is_plain(words: &[u32], at: RowPlace, top: FrameNo) -> bool
-    requires { ⌜ Within (now words) (at .0) × (0 < at .0) ⌝ }
+fn is_plain(words: &[u32], at: RowPlace, before: DocNo, top: FrameNo) -> bool
+    requires { ⌜ Within (now words) (at .0) × (0 < at .0) × (before .0 ≡ docAt (rowsOf (now words)) (at .0 - 1)) ⌝ }
     ensures { λ r. ⌜ r ≡ plain (rowsOf (now (words .entry))) (top .0) (at .0) ⌝ }
 {
-    let i = at.0;
-    let rises = rows::document(words, RowPlace(i - 1)).0 < rows::document(words, at).0;
+    let rises = before.0 < held::document(words, at).0;
     rises & is_bounded(words, at, top)
 }
 
@@ -72,10 +77,10 @@ fn pass_start(words: &[u32]) -> Pass
     ensures { λ r. ⌜ Passed (rowsOf (now (words .entry))) 1 r ⌝ }
 {
     let at = RowPlace(0);
-    let shown = rows::shown(words, at) as usize;
-    let high = rows::frame(words, at);
-    let known = rows::document(words, at);
-    let root = rows::parent(words, at).0 == NONE;
+    let shown = held::shown(words, at) as usize;
+    let high = held::frame(words, at);
+    let known = held::document(words, at);
+    let root = held::parent(words, at).0 == NONE;
     Pass {
         fine: root,
         late: false,
@@ -83,7 +88,17 @@ fn pass_start(words: &[u32]) -> Pass
         frames: 1,
         high,
         known,
+        ahead: 0,
+        opened: 0,
+        last: RowPlace(0),
     }
+}
+
+// The latest step before the upcoming ones, with the step at `at` more.
+fn last_step(late: bool, at: RowPlace, last: RowPlace) -> RowPlace
+    ensures { λ r. ⌜ r .0 ≡ cond late (last .0) (at .0) ⌝ }
+{
+    if late { last } else { at }
 }
 
 // The pass with a step more, after the row before it in its frame.
@@ -91,18 +106,22 @@ fn pass_step(words: &[u32], at: RowPlace, prior: RowPlace, p: Pass) -> Pass
     requires { ⌜ Within (now words) (at .0) × Onward (rowsOf (now words)) (at .0) p × StepAfter (rowsOf (now words)) (at .0) (prior .0) ⌝ }
     ensures { λ r. ⌜ Passed (rowsOf (now (words .entry))) (at .0 + 1) r ⌝ }
 {
-    let late = p.late | rows::is_shown(words, prior);
-    let linked = rows::parent(words, at).0 == rows::parent(words, prior).0;
-    let shown = rows::shown(words, at);
+    let late = p.late | held::is_shown(words, prior);
+    let linked = held::parent(words, at).0 == held::parent(words, prior).0;
+    let shown = held::shown(words, at);
     let high = p.high;
     let known = p.known;
+    let last = last_step(late, at, p.last);
     Pass {
-        fine: linked & !((shown == 1) & late),
+        fine: linked & ((shown == 0) | !late),
         late,
         shown: p.shown + shown as usize,
         frames: p.frames,
         high,
         known,
+        ahead: p.ahead + late as usize,
+        opened: p.opened,
+        last,
     }
 }
 
@@ -119,15 +138,19 @@ fn pass_first(words: &[u32], at: RowPlace, p: Pass) -> Pass
     ensures { λ r. ⌜ Passed (rowsOf (now (words .entry))) (at .0 + 1) r ⌝ }
 {
     let linked = has_parent(words, at, p.known);
-    let high = rows::higher(p.high, rows::frame(words, at));
-    let known = known_now(linked, rows::parent(words, at), p.known);
+    let high = held::higher(p.high, held::frame(words, at));
+    let known = known_now(linked, held::parent(words, at), p.known);
+    let last = p.last;
     Pass {
         fine: linked,
         late: p.late,
-        shown: p.shown + rows::shown(words, at) as usize,
+        shown: p.shown + held::shown(words, at) as usize,
         frames: p.frames + 1,
         high,
         known,
+        ahead: p.ahead + p.late as usize,
+        opened: p.opened + p.late as usize,
+        last,
     }
 }
 
@@ -136,40 +159,52 @@ fn pass_row(words: &[u32], at: RowPlace, p: Pass) -> Pass
     requires { ⌜ Within (now words) (at .0) × Onward (rowsOf (now words)) (at .0) p × (0 < at .0) ⌝ }
     ensures { λ r. ⌜ Passed (rowsOf (now (words .entry))) (at .0 + 1) r ⌝ }
 {
-    match rows::previous_under(words, at, p.high) {
+    match held::previous_under(words, at, p.high) {
         Found::At(prior) => pass_step(words, at, prior, p),
         Found::Nothing => pass_first(words, at, p),
     }
 }
 
+// What the test found: a rule that fails, or that all hold, with what the pass knows of all rows.
+enum Tested {
+    Fails,
+    Holds(Pass),
+}
+
 // Whether every row keeps the rules, and as many are shown as there are frames.
-fn rows_pass(words: &[u32], n: usize, top: FrameNo) -> bool
+fn rows_pass(words: &[u32], n: usize, top: FrameNo) -> Tested
     requires { ⌜ Within (now words) 0 × (n ≡ length (rowsOf (now words))) ⌝ }
-    ensures { λ r. ⌜ r ≡ (allBelow (length (rowsOf (now (words .entry)))) (rowFine (rowsOf (now (words .entry))) (top .0)) && evenly (rowsOf (now (words .entry)))) ⌝ }
+    ensures { λ r. ⌜ Tells (rowsOf (now (words .entry))) (allBelow (length (rowsOf (now (words .entry)))) (rowFine (rowsOf (now (words .entry))) (top .0)) && evenly (rowsOf (now (words .entry)))) r ⌝ }
 {
     if !is_bounded(words, RowPlace(0), top) {
-        return false;
+        return Tested::Fails;
     }
     let mut p = pass_start(words);
+    let mut before = held::document(words, RowPlace(0));
     let mut i = 1;
     while i < n {
-        if !(p.fine & is_plain(words, RowPlace(i), top)) {
-            return false;
+        if !(p.fine & is_plain(words, RowPlace(i), before, top)) {
+            return Tested::Fails;
         }
+        before = held::document(words, RowPlace(i));
         p = pass_row(words, RowPlace(i), p);
         i += 1;
     }
-    p.fine & (p.shown == p.frames)
+    if p.fine & (p.shown == p.frames) {
+        Tested::Holds(p)
+    } else {
+        Tested::Fails
+    }
 }
 
 // S2 to S7.
-fn rows_sound(words: &[u32], n: usize) -> bool
+fn rows_sound(words: &[u32], n: usize) -> Tested
     requires { ⌜ Within (now words) 0 × (n ≡ length (rowsOf (now words))) ⌝ }
-    ensures { λ r. ⌜ r ≡ quick? (rowsOf (now (words .entry))) (tableOf (now (words .entry)) .nextDoc) (tableOf (now (words .entry)) .nextFrame) ⌝ }
+    ensures { λ r. ⌜ Tells (rowsOf (now (words .entry))) (quick? (rowsOf (now (words .entry))) (tableOf (now (words .entry)) .nextDoc) (tableOf (now (words .entry)) .nextFrame)) r ⌝ }
 {
-    let last = rows::document(words, RowPlace(n - 1)).0 < rows::next_document(words).0;
+    let last = held::document(words, RowPlace(n - 1)).0 < rows::next_document(words).0;
     if !last {
-        return false;
+        return Tested::Fails;
     }
     rows_pass(words, n, rows::next_frame_number(words))
 }
@@ -189,25 +224,42 @@ fn rest_zero(words: &[u32], n: usize, c: usize) -> bool
     zero
 }
 
+// S1 to S8, with what the pass knows where they hold.
+fn test(words: &[u32]) -> Tested
+    ensures { λ r. ⌜ Tells (rowsOf (now (words .entry))) (sound? (now (words .entry))) r ⌝ }
+{
+    let c = rows::capacity(words);
+    if c == 0 {
+        return Tested::Fails;
+    }
+    let n = rows::row_count(words);
+    if n == 0 {
+        return Tested::Fails;
+    }
+    if c < n {
+        return Tested::Fails;
+    }
+    if !rest_zero(words, n, c) {
+        return Tested::Fails;
+    }
+    rows_sound(words, n)
+}
+
 // S1 to S8.
 pub fn sound(words: &[u32]) -> bool
     ensures { λ r. ⌜ r ≡ sound? (now (words .entry)) ⌝ }
 {
-    let c = rows::capacity(words);
-    if c == 0 {
-        return false;
+    match test(words) {
+        Tested::Fails => false,
+        Tested::Holds(_) => true,
     }
-    let n = rows::row_count(words);
-    if n == 0 {
-        return false;
-    }
-    if c < n {
-        return false;
-    }
-    if !rows_sound(words, n) {
-        return false;
-    }
-    rest_zero(words, n, c)
+}
+
+// Whether the words are fewer than the least record's.
+fn is_short(words: &[u32]) -> bool
+    ensures { λ r. ⌜ r ≡ short (now (words .entry)) ⌝ }
+{
+    words.len() < 7
 }
 
 // Whether a call may go on.
@@ -220,11 +272,56 @@ pub enum Check {
 pub fn examine(words: &[u32]) -> Check
     ensures { λ r. ⌜ r ≡ checkOf (now (words .entry)) ⌝ }
 {
-    if words.len() < 7 {
+    if is_short(words) {
         return Check::No(Refusal::ShortRecord);
     }
     if !sound(words) {
         return Check::No(Refusal::Unsound);
     }
     Check::Sound
+}
+
+// Where the window stands: how many steps there are, how many of them are taken, the place of the earliest upcoming one (the rows' end where there is none), and that of
+// the latest taken one (0 where there is none).
+pub struct Stand {
+    pub steps: usize,
+    pub position: usize,
+    pub upcoming: RowPlace,
+    pub last: RowPlace,
+}
+
+// Where the window of a sound record stands, by what the pass knows of all its rows.
+fn stand_of(words: &[u32], p: Pass) -> Stand
+    requires { ⌜ (sound? (now words) ≡ true) × Passed (rowsOf (now words)) (length (rowsOf (now words))) p ⌝ }
+    ensures { λ r. ⌜ r ≡ standOf (rowsOf (now (words .entry))) ⌝ }
+{
+    let n = rows::row_count(words);
+    let start = n - p.ahead;
+    let position = start + p.opened - p.frames;
+    let last = p.last;
+    Stand {
+        steps: n - p.frames,
+        position,
+        upcoming: RowPlace(start),
+        last,
+    }
+}
+
+// Refusals 1 and 2, or where the window stands.
+pub enum Survey {
+    Stands(Stand),
+    No(Refusal),
+}
+
+// Refusals 1 and 2, or where the window stands, by the one pass of the test.
+pub fn locate(words: &[u32]) -> Survey
+    ensures { λ r. ⌜ r ≡ surveyOf (now (words .entry)) ⌝ }
+{
+    if is_short(words) {
+        return Survey::No(Refusal::ShortRecord);
+    }
+    match test(words) {
+        Tested::Fails => Survey::No(Refusal::Unsound),
+        Tested::Holds(p) => Survey::Stands(stand_of(words, p)),
+    }
 }

@@ -1,5 +1,5 @@
 -- What Traverse answers, by the ways that it goes. Assumes nothing.
-use Prim.Native.Nat.{ℕ, _+_, _*_, _/_, _≤_, _<_}
+use Prim.Native.Nat.{ℕ, _*_, _/_, _≤_, _<_}
 use mathlib.Core.Bool.{false, So}
 use mathlib.Core.List.{List, [], _∷_, flatMap}
 use mathlib.Core.Logic.{inl, inr}
@@ -24,10 +24,11 @@ use Rattle.laws.proofs.Tree.{rising-all}
 use Rattle.laws.proofs.Words.{length-written, table-written}
 use Rattle.laws.proofs.Writes.{put-none}
 use Rattle.laws.proofs.Calls.{outcome-accepted, outcome-refused}
-use Rattle.sound.specs.Check.{checkOf, Examined}
-use Rattle.sound.specs.declared.Check.{Check}
-use Rattle.sound.specs.declared.Check.the-variants.{No}
-use Rattle.sound.proofs.Checks.{check-given, examined-long, examined-sound, examined-held}
+use Rattle.sound.specs.Survey.{surveyOf, Located}
+use Rattle.sound.specs.declared.Stand.{Stand}
+use Rattle.sound.specs.declared.Survey.{Survey}
+use Rattle.sound.specs.declared.Survey.the-variants.{No}
+use Rattle.sound.proofs.Checks.{survey-given, examined-long, examined-sound, examined-held}
 use Rattle.traverses.specs.declared.Traversed.the-variants.{Changes, Refused}
 use Rattle.traverses.specs.declared.Goal.{Goal}
 use Rattle.traverses.specs.declared.Goal.the-variants.{To, Outside}
@@ -36,27 +37,28 @@ use Rattle.traverses.specs.declared.Shifted.{Shifted}
 use Rattle.traverses.specs.declared.Shifted.the-variants.{Went, Stayed}
 use Rattle.traverses.specs.Answers.{traversedIs, tripText, Arrived, Shifts, Travels}
 use Rattle.traverses.specs.Goals.{goalOf}
-use Rattle.traverses.specs.Places.{stepsTo}
+use Rattle.traverses.specs.Places.{stepsTo, PlaceOf}
 use Rattle.traverses.specs.Texts.{docFrom, changeText, textBelow, placesText, movedTo, Ready, Start}
+use Rattle.traverses.proofs.Places.{stand-position, stand-steps}
 use Rattle.traverses.proofs.Texts.{no-text}
 
 -- READY
 
-module _ (words : List ℕ) (e : Examined words) (a b : ℕ) (first : a ≤ length (rowsOf words)) (second : b ≤ length (rowsOf words)) where
+module _ (words : List ℕ) (s : Stand) (h : Located words s) (a b to : ℕ) (first : PlaceOf (rowsOf words) (s .position) a) (second : PlaceOf (rowsOf words) to b) where
   pub ready-of : Ready words a b
   ready-of =
       record {
-        long = examined-long words e;
-        held = examined-held words e;
-        rise = λ i j. rising-all (length (rowsOf words)) (docAt (rowsOf words)) (examined-sound words e .table .s2 .rise) j i;
-        first = first;
-        second = second;
+        long = examined-long words (h .0);
+        held = examined-held words (h .0);
+        rise = λ i j. rising-all (length (rowsOf words)) (docAt (rowsOf words)) (examined-sound words (h .0) .table .s2 .rise) j i;
+        first = first .upto;
+        second = second .upto;
       }
 
-  pub start-of : stepsTo (rowsOf words) a ≡ position (rowsOf words) → Start words a b
-  start-of p =
-      let s = examined-sound words e .table in
-      record { examined = e; ready = ready-of; flags = ap (λ m. flagsAt m (rowsOf words)) p ∙ central (rowsOf words) (s .s6) (s .s7) }
+  pub start-of : Start words a b
+  start-of =
+      let t = examined-sound words (h .0) .table in
+      record { examined = h .0; ready = ready-of; flags = ap (λ m. flagsAt m (rowsOf words)) (first .counted ∙ stand-position words s h) ∙ central (rowsOf words) (t .s6) (t .s7) }
 
 -- THE CHANGE ROWS
 
@@ -222,11 +224,11 @@ goal-outside s (pos k) r e f =
     test (ltb s k) (λ t. t) (λ t. let g : To k ≡ Outside = rw t at (sym e ∙ f) in absurd (let z : _≡_ {A = ℕ} 0 1 = cc in omega arith))
 goal-outside s (negsuc k) r e f = refl
 
-pub beyond-way : (words : List ℕ) (room : ℕ) (δ : ℤ) (p s : ℕ) → Examined words → p ≡ position (rowsOf words) → s ≡ steps (rowsOf words) → So (outside s (pos p +ℤ δ)) → Shifts words δ room (Stayed Beyond) words
+pub beyond-way : (words : List ℕ) (room : ℕ) (δ : ℤ) (s : Stand) → Located words s → So (outside (s .steps) (pos (s .position) +ℤ δ)) → Shifts words δ room (Stayed Beyond) words
 unfolding refusals Given
-beyond-way words room δ p s x e f h =
-    let g : So (outside (steps (rowsOf words)) (pos (position (rowsOf words)) +ℤ δ)) = rw (e, f) at h in
-    stays words δ room Beyond (λ lent r. outcome-refused (Call.Traverse words δ lent) 6 (inr (x .long, inr (rw (x .passes) refl, inl (g, refl)))))
+beyond-way words room δ s x h =
+    let g : So (outside (steps (rowsOf words)) (pos (position (rowsOf words)) +ℤ δ)) = rw (stand-position words s x, stand-steps words s x) at h in
+    stays words δ room Beyond (λ lent r. outcome-refused (Call.Traverse words δ lent) 6 (inr (x .0 .long, inr (rw (x .0 .passes) refl, inl (g, refl)))))
 
 -- An amount as it is handed on.
 pub by-amount : (words room : List ℕ) (o : Outcome) (z δ : ℤ) → z ≡ δ → outcome (Call.Traverse words z room) ≡ o → outcome (Call.Traverse words δ room) ≡ o
@@ -236,9 +238,9 @@ pub shift-by : (words words' : List ℕ) (room : ℕ) (s : Shifted) (z δ : ℤ)
 shift-by words words' room s z δ e h = subst (λ d. Shifts words d room s words') e h
 
 -- Refused by the first two rungs.
-pub check-way : (words : List ℕ) (room : ℕ) (δ : ℤ) (k : Check) (r : Refusal) → k ≡ checkOf words → k ≡ No r → Shifts words δ room (Stayed r) words
+pub survey-way : (words : List ℕ) (room : ℕ) (δ : ℤ) (k : Survey) (r : Refusal) → k ≡ surveyOf words → k ≡ No r → Shifts words δ room (Stayed r) words
 unfolding refusals
-check-way words room δ k r e f = stays words δ room r (λ lent z. outcome-refused (Call.Traverse words δ lent) _ (check-given words _ k r e f))
+survey-way words room δ k r e f = stays words δ room r (λ lent z. outcome-refused (Call.Traverse words δ lent) _ (survey-given words _ k r e f))
 
 -- Whoever writes the change rows of a shift.
 pub went-ready : (words words' : List ℕ) (δ : ℤ) (room : ℕ) (s : Shifted) → Shifts words δ room s words' → (t : Trip) → s ≡ Went t → Ready words' (t .before .0) (t .after .0)

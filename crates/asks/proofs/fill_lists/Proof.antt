@@ -9,10 +9,9 @@ use Rattle.rules.specs.Below.{count}
 use Rattle.rules.specs.Rows.{frameAt}
 use Rattle.rules.specs.Steps.{isStep}
 use Rattle.laws.proofs.Loops.{count-none, count-more, count-within}
-use Rattle.rows.specs.Tally.{Under}
-use Rattle.rows.proofs.Tallies.{under-more, steps-fit}
+use Rattle.held.specs.Under.{Under}
+use Rattle.held.proofs.Scans.{under-more, steps-fit}
 use Rattle.sound.proofs.Checks.{examined-sound, examined-held}
-use Rattle.asks.proofs.Answered.{readable}
 use Rattle.asks.proofs.Listing.{Filling, filling-lengths, filling-starts, filling-more, filling-ends}
 use Rattle.asks.proofs.fill_lists.Statement.{statement}
 use Rattle.asks.proofs.fill_lists.Tie as tie
@@ -28,7 +27,7 @@ fill-lists-spec =
     tie.close (tie.spec
     Inv-loop
     μ-loop
-    (λ c κs. readable _ (c .before .before .before .pre .0) .1)
+    (λ c κs. search needs)
     (λ c. let s = examined-sound _ (c .before .before .before .before .pre .0) .table in
     (omega arith, count-none _, omega arith, λ k l. absurd (omega arith), filling-starts (rowsOf (now (c .before .before .before .before .args .words))) (s .s6) (s .s7) _ _))
     (λ c κs. let c1 = c .before in

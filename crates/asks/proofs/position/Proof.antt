@@ -1,8 +1,7 @@
 -- `asks::position` meets its contract. Assumes nothing.
 use borrow.Author.Needs.{needs}
 use denote.Ref.{now}
-use Rattle.sound.proofs.Checks.{check-passes}
-use Rattle.asks.proofs.Answered.{position-refused}
+use Rattle.asks.proofs.Answered.{position-refused, position-given}
 use Rattle.asks.proofs.position.Statement.{statement}
 use Rattle.asks.proofs.position.Tie as tie
 
@@ -12,11 +11,9 @@ position-spec =
     (λ c κs. search needs)
     (λ c. search needs)
     (λ c. search needs)
-    (λ c κs. let c2 = c .before .before in
-    let c4 = c2 .before .before in
-    check-passes (now (c4 .args .words)) _ (c2 .examine .ensures) (c .enum-told .given .1))
     (λ c. let c1 = c .before in
     let c3 = c1 .before .before in
-    let c5 = c3 .before .before in
-    position-refused (now (c5 .args .words)) _ _ (c3 .examine .ensures) (c1 .r .given .1))
-    (λ c. c .stand .ensures))
+    position-refused (now (c3 .before .before .args .words)) _ (c3 .locate .ensures) _ (c1 .r .given .1))
+    (λ c. let c1 = c .before in
+    let c3 = c1 .before .before in
+    position-given (now (c3 .before .before .args .words)) _ (c3 .locate .ensures) _ (c1 .s .given .1)))

@@ -2,7 +2,7 @@
 use borrow.Author.Needs.{needs}
 use denote.Ref.{now}
 use Rattle.sound.proofs.Checks.{check-passes}
-use Rattle.asks.proofs.Answered.{visible-refused}
+use Rattle.asks.proofs.Answered.{visible-refused, visible-given}
 use Rattle.asks.proofs.visible.Statement.{statement}
 use Rattle.asks.proofs.visible.Tie as tie
 
@@ -12,11 +12,12 @@ visible-spec =
     (λ c κs. search needs)
     (λ c. search needs)
     (λ c. search needs)
-    (λ c κs. let c2 = c .before .before in
-    let c4 = c2 .before .before in
-    check-passes (now (c4 .args .words)) _ (c2 .examine .ensures) (c .enum-told .given .1))
+    (λ c κs. search needs)
     (λ c. let c1 = c .before in
     let c3 = c1 .before .before in
     let c5 = c3 .before .before in
-    visible-refused (now (c5 .args .words)) _ _ (c3 .examine .ensures) (c1 .r .given .1) _)
-    (λ c. c .seen .ensures))
+    visible-refused (now (c5 .args .words)) _ _ _ (c3 .examine .ensures) (c1 .r .given .1))
+    (λ c. let c1 = c .before in
+    let c3 = c1 .before .before in
+    let c5 = c3 .before .before in
+    visible-given (now (c5 .args .words)) (check-passes (now (c5 .args .words)) _ (c3 .examine .ensures) (c1 .enum-told .given .1)) _ _ (c .seen .ensures)))

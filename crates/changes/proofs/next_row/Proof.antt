@@ -3,6 +3,7 @@ use native.Mathlib.Omega.{arith}
 use borrow.Author.Needs.{needs}
 use denote.Ref.{now}
 use Rattle.laws.proofs.Words.{next-frame-in}
+use Rattle.traverses.proofs.Texts.{climbed}
 use Rattle.changes.proofs.Filling.{row-found, row-places, row-follows}
 use Rattle.changes.proofs.next_row.Statement.{statement}
 use Rattle.changes.proofs.next_row.Tie as tie
@@ -27,4 +28,4 @@ next-row-spec =
     let c5 = c4 .before in
     let c6 = c5 .before in
     let e = row-found _ _ _ (c6 .pre) _ (c4 .next-change .ensures) in
-    row-follows (now (c6 .args .words)) _ _ (c6 .pre) _ (c4 .next-change .ensures) _ _ _ (c2 .document .ensures) (c1 .document2 .ensures) (c .climb .ensures) (omega (arith, c5 .shared-slice-known .given 2, next-frame-in (now (c6 .args .words))))))
+    row-follows (now (c6 .args .words)) _ _ (c6 .pre) _ (c4 .next-change .ensures) _ _ _ (c2 .document .ensures) (c1 .document2 .ensures) (climbed _ _ _ (c6 .pre .ready .held) (c .climb .ensures)) (omega (arith, c5 .shared-slice-known .given 2, next-frame-in (now (c6 .args .words))))))

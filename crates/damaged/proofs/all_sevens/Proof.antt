@@ -1,6 +1,5 @@
 -- `damaged::all_sevens` ends and reads no word but its own. Assumes nothing.
 use Prim.Native.Nat.{_≤_, _-_}
-use native.Mathlib.Omega.{arith}
 use lib.ListN.{length}
 use borrow.Author.Needs.{needs}
 use Rattle.damaged.proofs.all_sevens.Statement.{statement}

@@ -1,22 +1,29 @@
 -- `navigates::judge` meets its contract. Assumes nothing.
 use borrow.Author.Needs.{needs}
 use denote.Ref.{now}
-use Rattle.sound.proofs.Checks.{check-passes}
-use Rattle.navigates.proofs.Judges.{judged-refused}
+use Rattle.rules.specs.Calls.{refusals}
+use Rattle.asks.proofs.Judged.{not-there, not-shown, shown-there}
+use Rattle.navigates.specs.Answers.{roomRungs}
 use Rattle.navigates.proofs.judge.Statement.{statement}
 use Rattle.navigates.proofs.judge.Tie as tie
 
 pub judge-spec : {M : Type 1} → statement M
+unfolding refusals
 judge-spec =
     tie.close (tie.spec
     (λ c κs. search needs)
     (λ c. search needs)
     (λ c. search needs)
-    (λ c κs. let c2 = c .before .before in
-    let c4 = c2 .before .before in
-    check-passes (now (c4 .args .words)) _ (c2 .examine .ensures) (c .enum-told .given .1))
+    (λ c. search needs)
+    (λ c κs. search needs)
     (λ c. let c1 = c .before in
     let c3 = c1 .before .before in
     let c5 = c3 .before .before in
-    judged-refused (now (c5 .args .words)) _ _ _ (c3 .examine .ensures) (c1 .r .given .1))
-    (λ c. c .judge-sound .ensures))
+    not-there (now (c5 .args .words)) (c5 .pre .0) _ (roomRungs (now (c5 .args .words))) _ (c3 .seen .ensures) _ (c1 .r .given .1))
+    (λ c. let c2 = c .before .before in
+    let c4 = c2 .before .before in
+    not-shown (now (c4 .args .words)) (c4 .pre .0) _ (roomRungs (now (c4 .args .words))) _ (c2 .seen .ensures) (c .enum-told .given .1))
+    (λ c. let c1 = c .before in
+    let c3 = c1 .before .before in
+    let c5 = c3 .before .before in
+    shown-there (now (c5 .args .words)) (c5 .pre .0) _ (roomRungs (now (c5 .args .words))) _ (c3 .seen .ensures) (c1 .enum-told2 .given .1) (c .judge-room .result) (c .judge-room .ensures)))

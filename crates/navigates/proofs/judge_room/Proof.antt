@@ -1,8 +1,6 @@
 -- `navigates::judge_room` meets its contract. Assumes nothing.
-use native.Mathlib.Omega.{arith}
 use borrow.Author.Needs.{needs}
 use denote.Ref.{now}
-use Rattle.sound.proofs.Checks.{examined-long}
 use Rattle.navigates.proofs.Judges.{room-full, room-used, room-left}
 use Rattle.navigates.proofs.judge_room.Statement.{statement}
 use Rattle.navigates.proofs.judge_room.Tie as tie
@@ -11,8 +9,10 @@ pub judge-room-spec : {M : Type 1} → statement M
 judge-room-spec =
     tie.close (tie.spec
     (λ c κs. search needs)
-    (λ c. room-full (now (c .before .before .before .args .words)) _ (c .before .is-full .ensures) (c .if1 .taken))
-    (λ c κs. let l = examined-long _ (c .before .before .before .pre) in omega arith)
+    (λ c. let c1 = c .before in
+    let c3 = c1 .before .before in
+    room-full (now (c3 .args .words)) _ (c1 .is-full .ensures) (c .if1 .taken))
+    (λ c κs. search needs)
     (λ c. let c2 = c .before .before in
     let c3 = c2 .before in
     let c4 = c3 .before in

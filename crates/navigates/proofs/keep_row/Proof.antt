@@ -1,7 +1,8 @@
 -- `navigates::keep_row` meets its contract. Assumes nothing.
 use borrow.Author.Needs.{needs}
-use borrow.Author.Tests.{not-true, not-false}
 use denote.Ref.{now}
+use borrow.Author.Tests.{not-true, not-false}
+use Rattle.rows.proofs.Holds.{row-within}
 use Rattle.navigates.proofs.Turns.{row-goes, row-moves}
 use Rattle.navigates.proofs.keep_row.Statement.{statement}
 use Rattle.navigates.proofs.keep_row.Tie as tie
@@ -16,17 +17,11 @@ keep-row-spec =
     row-goes (now (c4 .args .words)) _ _ _ (c1 .row-joins .ensures) (not-true _ (c .if1 .taken)))
     (λ c κs. search needs)
     (λ c κs. search needs)
-    (λ c κs. search needs)
-    (λ c κs. search needs)
-    (λ c κs. search needs)
     (λ c. search needs)
     (λ c. search needs)
     (λ c. let c2 = c .before .before in
     let c4 = c2 .before .before in
     let c6 = c4 .before .before in
-    let c8 = c6 .before .before in
-    let c10 = c8 .before .before in
-    let c12 = c10 .before .before in
-    let c13 = c12 .before in
-    let c16 = c13 .before .before .before in
-    row-moves (now (c16 .args .words)) _ _ _ (c13 .row-joins .ensures) _ _ _ _ _ (not-false _ (c12 .if1 .left)) (c10 .document .ensures) (c8 .frame .ensures) (c6 .parent .ensures) (c4 .shown .ensures) (c2 .put-row .ensures)))
+    let c7 = c6 .before in
+    let c10 = c7 .before .before .before in
+    row-moves (now (c10 .args .words)) _ _ _ (c7 .row-joins .ensures) _ _ (not-false _ (c6 .if1 .left)) (row-within (now (c10 .args .words)) _ _ (c10 .pre .0) (c4 .read-row .ensures)) (c2 .put-row .ensures)))

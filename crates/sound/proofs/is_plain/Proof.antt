@@ -9,11 +9,8 @@ use Rattle.sound.proofs.is_plain.Tie as tie
 pub is-plain-spec : {M : Type 1} → statement M
 is-plain-spec =
     tie.close (tie.spec
-    (λ c. search needs)
-    (λ c κs. search needs)
     (λ c κs. search needs)
     (λ c κs. search needs)
     (λ c. let c3 = c .before .before .before in
-    let c4 = c3 .before in
-    let c6 = c4 .before .before in
-    plain-is (rowsOf (now (c6 .args .words))) _ _ _ _ _ (c6 .pre .1) (c4 .document .ensures) (c3 .document2 .ensures) (c .is-bounded .ensures)))
+    let c5 = c3 .before .before in
+    plain-is (rowsOf (now (c5 .args .words))) _ _ _ _ _ (c5 .pre .1) (c5 .pre .2) (c3 .document .ensures) (c .is-bounded .ensures)))

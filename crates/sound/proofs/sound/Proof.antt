@@ -1,10 +1,9 @@
 -- `sound::sound` meets its contract. Assumes nothing.
-use native.Mathlib.Omega.{arith}
 use borrow.Author.Needs.{needs}
-use borrow.Author.Tests.{not-true, not-false}
+use mathlib.Core.Path.{sym}
 use denote.Ref.{now}
-use Rattle.laws.proofs.Words.{next-doc-in}
-use Rattle.sound.proofs.Verdict.{sound-no-room, sound-empty, sound-over, sound-stops, sound-goes}
+use Rattle.rules.specs.Words.{rowsOf}
+use Rattle.sound.proofs.Verdict.{told-fails, told-holds}
 use Rattle.sound.proofs.sound.Statement.{statement}
 use Rattle.sound.proofs.sound.Tie as tie
 
@@ -12,11 +11,11 @@ pub sound-spec : {M : Type 1} → statement M
 sound-spec =
     tie.close (tie.spec
     (λ c κs. search needs)
-    (λ c. sound-no-room (now (c .before .before .before .args .words)) _ (c .before .capacity .ensures) (c .if1 .taken))
-    (λ c κs. search needs)
-    (λ c. sound-empty (now (c .before .before .before .before .before .args .words)) _ (c .before .row-count .ensures) (c .if2 .taken))
-    (λ c. sound-over (now (c .before .before .before .before .before .before .args .words)) _ _ (c .before .before .before .before .capacity .ensures) (c .before .before .row-count .ensures) (c .if3 .taken))
-    (λ c κs. search needs)
-    (λ c. sound-stops (now (c .before .before .before .before .before .before .before .before .args .words)) (omega arith) (omega arith) (omega (arith, c .before .before .before .before .before .before .before .shared-slice-known .given 1, next-doc-in (now (c .before .before .before .before .before .before .before .before .args .words)))) _ (c .before .rows-sound .ensures) (not-true _ (c .if4 .taken)))
-    (λ c κs. search needs)
-    (λ c. sound-goes (now (c .before .before .before .before .before .before .before .before .before .args .words)) (omega arith) (omega arith) (omega (arith, c .before .before .before .before .before .before .before .before .shared-slice-known .given 1, next-doc-in (now (c .before .before .before .before .before .before .before .before .before .args .words)))) _ _ (c .before .before .rows-sound .ensures) (not-false _ (c .before .if4 .left)) (c .rest-zero .ensures)))
+    (λ c. search needs)
+    (λ c. search needs)
+    (λ c. let c2 = c .before .before in
+    let c4 = c2 .before .before in
+    sym (told-fails (rowsOf (now (c4 .args .words))) _ _ (c2 .test .ensures) (c .enum-told .given .1)))
+    (λ c. let c2 = c .before .before in
+    let c4 = c2 .before .before in
+    sym (told-holds (rowsOf (now (c4 .args .words))) _ _ (c2 .test .ensures) _ (c .enum-told2 .given .1) .0)))

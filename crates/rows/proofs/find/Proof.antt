@@ -1,0 +1,19 @@
+-- `rows::find` meets its contract. Assumes nothing.
+use native.Mathlib.Omega.{arith}
+use borrow.Author.Needs.{needs}
+use denote.Ref.{now}
+use Rattle.rows.proofs.Holds.{find-none, find-before, find-held}
+use Rattle.rows.proofs.find.Statement.{statement}
+use Rattle.rows.proofs.find.Tie as tie
+
+pub find-spec : {M : Type 1} → statement M
+find-spec =
+    tie.close (tie.spec
+    (λ c κs. search needs)
+    (λ c. let c1 = c .before in
+    find-none (now (c1 .before .before .args .words)) _ _ (c1 .held-count .ensures) (c .if1 .taken))
+    (λ c κs. let c1 = c .before in
+    find-before (now (c1 .before .before .args .words)) _ (c1 .held-count .ensures) (omega arith))
+    (λ c. let c1 = c .before in
+    let c2 = c1 .before in
+    find-held (now (c2 .before .before .args .words)) _ _ _ (c2 .held-count .ensures) (omega arith) (c .find-below .ensures)))

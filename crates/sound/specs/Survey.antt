@@ -1,0 +1,33 @@
+-- Refusals 1 and 2, or where the window stands. Definitions.
+use Prim.Native.Nat.{ℕ}
+use mathlib.Core.Bool.{cond}
+use mathlib.Core.List.{List}
+use mathlib.Core.Path.{_≡_}
+use lib.ListN.{length}
+use Rattle.base.specs.declared.Refusal.the-variants.{ShortRecord, Unsound}
+use Rattle.rules.specs.Below.{earliest, latest}
+use Rattle.rules.specs.Rows.{Row}
+use Rattle.rules.specs.Steps.{taken, upcoming, position, steps}
+use Rattle.rules.specs.Words.{rowsOf}
+use Rattle.rules.specs.Calls.{short, unsound}
+use Rattle.sound.specs.Check.{Examined}
+use Rattle.sound.specs.declared.Stand.{Stand}
+use Rattle.sound.specs.declared.Survey.{Survey}
+use Rattle.sound.specs.declared.Survey.the-variants.{Stands, No}
+
+-- The steps, the position, the earliest upcoming step and the latest taken one.
+abbrev pub standOf : List Row → Stand
+standOf rows =
+    record {
+      steps = steps rows;
+      position = position rows;
+      upcoming = record { 0 = earliest (upcoming rows) (length rows) };
+      last = record { 0 = latest (taken rows) (length rows) };
+    }
+
+unfoldable pub surveyOf : List ℕ → Survey
+surveyOf words = cond (short words) (No ShortRecord) (cond (unsound words) (No Unsound) (Stands (standOf (rowsOf words))))
+
+-- The record is sound, and its window stands so.
+abbrev pub Located : List ℕ → Stand → Type 0
+Located words s = Examined words × (s ≡ standOf (rowsOf words))
