@@ -1,9 +1,10 @@
 //! The questions: position, visible, lists, stretch.
-use crate::record::{DOCUMENT, Refusal, climb, count_steps, examine, find, steps};
+use crate::record::{DOCUMENT, Refusal, Stand, climb, examine, find, locate, steps};
 
 /// Position and steps.
 pub fn position(words: &[u32]) -> Result<(usize, usize), Refusal> {
-    Ok(count_steps(examine(words)?))
+    let stand = locate(words)?;
+    Ok((stand.position, stand.steps))
 }
 
 /// Whether a document is visible.
@@ -13,25 +14,44 @@ pub fn visible(words: &[u32], document: u32) -> Result<bool, Refusal> {
     Ok(climb(rows, at))
 }
 
-/// Fills both lists; how many entries each has.
-pub fn lists(words: &[u32], taken: &mut [u32], upcoming: &mut [u32]) -> Result<(usize, usize), Refusal> {
-    let rows = examine(words)?;
-    let (position, count) = count_steps(rows);
-    if taken.len() < position || upcoming.len() < count - position {
-        return Err(Refusal::ShortBuffer);
-    }
+/// Stores the steps among the first rows, up to where every frame has begun; that place.
+fn list_mixed(stand: &Stand, taken: &mut [u32], upcoming: &mut [u32]) -> usize {
+    let (rows, position) = (stand.rows, stand.position);
     let mut passed = 0;
-    for (row, step) in rows.iter().zip(steps(rows)) {
+    for (at, step) in steps(rows).enumerate() {
+        if at - passed == stand.frames() {
+            return at;
+        }
         if step {
             if passed < position {
-                taken[position - 1 - passed] = row[DOCUMENT];
+                taken[position - 1 - passed] = rows[at][DOCUMENT];
             } else {
-                upcoming[passed - position] = row[DOCUMENT];
+                upcoming[passed - position] = rows[at][DOCUMENT];
             }
             passed += 1;
         }
     }
-    Ok((position, count - position))
+    rows.len()
+}
+
+/// Fills both lists; how many entries each has.
+pub fn lists(words: &[u32], taken: &mut [u32], upcoming: &mut [u32]) -> Result<(usize, usize), Refusal> {
+    let stand = locate(words)?;
+    let ahead = stand.steps - stand.position;
+    if taken.len() < stand.position || upcoming.len() < ahead {
+        return Err(Refusal::ShortBuffer);
+    }
+    let begun = list_mixed(&stand, taken, upcoming);
+    let late = begun.max(stand.upcoming);
+    let run = &stand.rows[begun..late];
+    for (entry, row) in taken[..run.len()].iter_mut().zip(run.iter().rev()) {
+        *entry = row[DOCUMENT];
+    }
+    let run = &stand.rows[late..];
+    for (entry, row) in upcoming[ahead - run.len()..ahead].iter_mut().zip(run) {
+        *entry = row[DOCUMENT];
+    }
+    Ok((stand.position, ahead))
 }
 
 /// The first entries of the caller's own list.

@@ -1,5 +1,5 @@
 //! Fresh, Open and Navigate.
-use crate::record::{FRAME, NONE, PARENT, Refusal, Row, SHOWN, capacity, climb, count_steps, examine, find, room_mut, step_places};
+use crate::record::{FRAME, NONE, PARENT, Refusal, Row, SHOWN, capacity, climb, examine, find, locate, room_mut};
 
 /// The record of a new window.
 pub fn fresh(words: &mut [u32]) -> Result<(), Refusal> {
@@ -36,10 +36,10 @@ pub fn open(words: &mut [u32], parent: u32) -> Result<(u32, u32), Refusal> {
     Ok((document, frame))
 }
 
-/// Moves down every row from `start` on that is neither upcoming nor beneath what is; how many rows stay.
-fn close_gaps(rows: &mut [Row], start: usize) -> usize {
+/// Moves down every row from `start` up to `end` that is neither upcoming nor beneath what is; how many rows stay.
+fn close_gaps(rows: &mut [Row], start: usize, end: usize) -> usize {
     let mut kept = start;
-    for at in start..rows.len() {
+    for at in start..end {
         let row = rows[at];
         let stay = &rows[..kept];
         if !stay.iter().any(|other| other[FRAME] == row[FRAME]) && find(stay, row[PARENT]).is_some() {
@@ -52,20 +52,19 @@ fn close_gaps(rows: &mut [Row], start: usize) -> usize {
 
 /// Navigates from a document: the new document.
 pub fn navigate(words: &mut [u32], from: u32) -> Result<u32, Refusal> {
-    let rows = examine(words)?;
-    judge_visible(rows, from)?;
-    let count = rows.len();
-    let (position, all) = count_steps(rows);
-    if count == capacity(words) && position == all {
+    let stand = locate(words)?;
+    judge_visible(stand.rows, from)?;
+    let (count, start) = (stand.rows.len(), stand.upcoming);
+    if count == capacity(words) && stand.position == stand.steps {
         return Err(Refusal::Full);
     }
     let document = words[1];
     if document == NONE {
         return Err(Refusal::UsedUp);
     }
-    let start = step_places(rows).nth(position).unwrap_or(count);
+    let end = if stand.frames() + stand.position == start { start } else { count };
     let rows = room_mut(words);
-    let kept = close_gaps(&mut rows[..count], start);
+    let kept = close_gaps(rows, start, end);
     let left = find(&rows[..kept], from).expect("a visible document stays");
     rows[left][SHOWN] = 0;
     rows[kept] = [document, rows[left][FRAME], rows[left][PARENT], 1];

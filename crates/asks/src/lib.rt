@@ -10,17 +10,17 @@ use sound::Stand;
 use sound::Survey;
 ghost use mathlib.Core.Path.{_≡_};
 ghost use mathlib.Core.List.{[], _∷_};
-ghost use Prim.Native.Nat.{_<_};
-ghost use Rattle.rules.specs.Steps.{visibleAt, position as positionOf};
-ghost use Rattle.rules.specs.Words.{put, rowsOf};
-ghost use Rattle.rules.specs.Asks.{takenList, upcomingList, ownList, stretched};
+ghost use lib.ListN.{length};
+ghost use Prim.Native.Nat.{_-_, _≤_, _<_, max};
+ghost use Rattle.rules.specs.Steps.{visibleAt};
+ghost use Rattle.rules.specs.Words.{rowsOf};
+ghost use Rattle.rules.specs.Asks.{ownList, stretched};
 ghost use Rattle.rules.specs.Calls.{Call, outcome};
 ghost use Rattle.held.specs.Held.{Within};
-ghost use Rattle.sound.specs.Check.{Examined};
 ghost use Rattle.sound.specs.Survey.{Located};
 ghost use Rattle.rows.specs.Holds.{heldRows};
 ghost use Rattle.asks.specs.Answers.{standingIs, sightIs, sightOf, stretchIs, listedIs};
-ghost use Rattle.asks.specs.Listing.{takenWith, upcomingWith};
+ghost use Rattle.asks.specs.Listing.{takenWith, upcomingWith, Begun, TakensTo, TakensFrom, UpcomingsTo, UpcomingsFrom};
 
 // Where the window stands: position, steps, and the length for scripts.
 pub enum Standing {
@@ -166,29 +166,59 @@ fn list_step(
     }
 }
 
-// Fills both lists from the rows of a sound record.
-fn fill_lists(words: &[u32], position: usize, taken: &mut [u32], upcoming: &mut [u32])
-    requires { ⌜ Examined (now words) × (position ≡ positionOf (rowsOf (now words))) ⌝ }
-    ensures takens { λ _. ⌜ now (taken .exit) ≡ put (now (taken .entry)) 0 (takenList (rowsOf (now (words .entry)))) ⌝ }
-    ensures upcomings { λ _. ⌜ now (upcoming .exit) ≡ put (now (upcoming .entry)) 0 (upcomingList (rowsOf (now (words .entry)))) ⌝ }
+// Stores the steps among the first rows, up to where every frame has begun. That place: all rows from there on are steps.
+fn list_mixed(words: &[u32], s: Stand, taken: &mut [u32], upcoming: &mut [u32]) -> RowPlace
+    requires { ⌜ Located (now words) s ⌝ }
+    ensures begun { λ r. ⌜ Begun (rowsOf (now (words .entry))) (r .0) ⌝ }
+    ensures takens { λ r. ⌜ TakensTo (rowsOf (now (words .entry))) (r .0) (now (taken .entry)) (now (taken .exit)) ⌝ }
+    ensures upcomings { λ r. ⌜ UpcomingsTo (rowsOf (now (words .entry))) (r .0) (now (upcoming .entry)) (now (upcoming .exit)) ⌝ }
 {
-    let n = rows::row_count(words);
+    let frames = rows::row_count(words) - s.steps;
     let mut m = 0;
     let mut high = FrameNo(0);
     let mut i = 0;
-    while i < n {
+    while i - m < frames {
         let at = RowPlace(i);
         let step = held::is_step(words, at, high);
-        list_step(
-            step,
-            held::document(words, at),
-            m,
-            position,
-            taken,
-            upcoming,
-        );
+        let d = held::document(words, at);
+        list_step(step, d, m, s.position, taken, upcoming);
         high = held::higher(high, held::frame(words, at));
         m += step as usize;
+        i += 1;
+    }
+    RowPlace(i)
+}
+
+// The later of two places.
+fn later(a: RowPlace, b: RowPlace) -> RowPlace
+    ensures { λ r. ⌜ r .0 ≡ max (a .0) (b .0) ⌝ }
+{
+    if a.0 < b.0 { b } else { a }
+}
+
+// Stores the taken steps from a place on, from which all rows are steps.
+fn list_taken(words: &[u32], from: RowPlace, s: Stand, taken: &mut [u32])
+    requires { ⌜ Located (now words) s × Begun (rowsOf (now words)) (from .0) × (s .position ≤ length (now taken)) ⌝ }
+    ensures { λ _. ⌜ TakensFrom (rowsOf (now (words .entry))) (from .0) (now (taken .entry)) (now (taken .exit)) ⌝ }
+{
+    let end = s.upcoming.0;
+    let mut i = from.0;
+    while i < end {
+        taken[end - 1 - i] = held::document(words, RowPlace(i)).0;
+        i += 1;
+    }
+}
+
+// Stores the upcoming steps from a place on, from which all rows are steps.
+fn list_upcoming(words: &[u32], from: RowPlace, s: Stand, upcoming: &mut [u32])
+    requires { ⌜ Located (now words) s × Begun (rowsOf (now words)) (from .0) × (s .steps - s .position ≤ length (now upcoming)) ⌝ }
+    ensures { λ _. ⌜ UpcomingsFrom (rowsOf (now (words .entry))) (from .0) (now (upcoming .entry)) (now (upcoming .exit)) ⌝ }
+{
+    let n = rows::row_count(words);
+    let first = n - s.steps + s.position;
+    let mut i = later(from, s.upcoming).0;
+    while i < n {
+        upcoming[i - first] = held::document(words, RowPlace(i)).0;
         i += 1;
     }
 }
@@ -206,7 +236,9 @@ fn list(words: &[u32], s: Stand, taken: &mut [u32], upcoming: &mut [u32]) -> Lis
     if upcoming.len() < ahead {
         return Listed::Refused(Refusal::ShortBuffer);
     }
-    fill_lists(words, position, taken, upcoming);
+    let begun = list_mixed(words, s, taken, upcoming);
+    list_taken(words, begun, s, taken);
+    list_upcoming(words, begun, s, upcoming);
     Listed::Counts(position, ahead)
 }
 

@@ -19,7 +19,7 @@ use Rattle.traverses.specs.declared.Shifted.{Shifted}
 use Rattle.traverses.specs.declared.Shifted.the-variants.{Went, Stayed}
 use Rattle.traverses.specs.Answers.{traversedIs, answerOf, tripOf, tripText, Arrived, Shifts}
 use Rattle.traverses.specs.Texts.{NextChange, Ready}
-use Rattle.traverses.proofs.Texts.{text-none, text-whole}
+use Rattle.traverses.proofs.Texts.{text-whole}
 use Rattle.changes.specs.declared.ChangeRow.{ChangeRow}
 use Rattle.changes.specs.Changes.{rowText, plain, tripBelow, Awaits, Follows, Fits}
 
@@ -102,10 +102,10 @@ pub record Turn (words : List ℕ) (trip : Trip) (old : List ChangeRow) : Type 0
   pub fits : from < 2 ^ 32
 
 module _ (words : List ℕ) (trip : Trip) (old : List ChangeRow) (h : Fits words trip (length old)) where
-  pub filled-starts : Filled words trip old old 0 0
+  pub filled-starts : Filled words trip old old 0 (trip .first .0)
   filled-starts =
-      let e = text-none (rowsOf words) (trip .before .0) (trip .after .0) in
-      record { upto = omega arith; within = omega arith; size = ap length (sym e); same-length = refl; filled = put-none (plain old) 0 ∙ ap (put (plain old) 0) (sym e) }
+      let e = h .begins .none-below in
+      record { upto = omega arith; within = h .begins .within; size = ap length (sym e); same-length = refl; filled = put-none (plain old) 0 ∙ ap (put (plain old) 0) (sym e) }
 
   module _ (new : List ChangeRow) (i f : ℕ) (s : Filled words trip old new i f) where
     pub filled-awaits : i < trip .count → Awaits words trip f
@@ -141,7 +141,7 @@ went-far words (Stayed r) a l = absurd (omega arith)
 
 module _ (words words' : List ℕ) (δ : ℤ) (rows : List ChangeRow) (s : Shifted) (h : Shifts words δ (length rows) s words') where
   pub shift-fits : Fits words' (tripOf s) (length rows)
-  shift-fits = record { fits = h .fits; sized = h .sized; ready = went-far words' s (h .arrived) }
+  shift-fits = record { fits = h .fits; sized = h .sized; begins = h .begins; ready = went-far words' s (h .arrived) }
 
   pub traverse-way : (rows' : List ChangeRow) (r : Traversed) → r ≡ answerOf s → plain rows' ≡ put (plain rows) 0 (tripText words' (tripOf s)) →
       outcome (Call.Traverse words δ (plain rows)) ≡ record { answer = traversedIs r; lent = words' ∷ plain rows' ∷ [] }

@@ -11,7 +11,7 @@ use Rattle.rules.specs.Steps.{visible}
 use Rattle.rules.specs.Moves.{walked, frames, shownDoc}
 use Rattle.rules.specs.Words.{tableOf, rowsOf}
 use Rattle.traverses.specs.declared.Trip.{Trip}
-use Rattle.traverses.specs.Answers.{tripText}
+use Rattle.traverses.specs.Answers.{tripText, TripBegins}
 use Rattle.traverses.specs.Texts.{textBelow, Ready}
 use Rattle.changes.specs.declared.ChangeRow.{ChangeRow}
 
@@ -55,8 +55,9 @@ pub record Follows (words : List ℕ) (trip : Trip) (from : ℕ) (row : ChangeRo
   pub small : row .frame .0 < none
   pub more : tripBelow words trip (row .frame .0 + 1) ≡ tripBelow words trip from ++ rowText row
 
--- So many rows are lent that the trip's fit, and these can be read.
+-- So many rows are lent that the trip's fit, they are of frames from its first on, and they can be read.
 pub record Fits (words : List ℕ) (trip : Trip) (room : ℕ) : Type 0 where
   pub fits : trip .count ≤ room
   pub sized : 4 * trip .count ≡ length (tripText words trip)
+  pub begins : TripBegins words trip
   pub ready : 0 < trip .count → Ready words (trip .before .0) (trip .after .0)

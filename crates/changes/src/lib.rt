@@ -53,7 +53,7 @@ fn fill(rows: &mut [ChangeRow], words: &[u32], trip: Trip)
     ensures { λ _. ⌜ plain (now (rows .exit)) ≡ put (plain (now (rows .entry))) 0 (tripText (now (words .entry)) trip) ⌝ }
 {
     let n = trip.count;
-    let mut from = FrameNo(0);
+    let mut from = trip.first;
     let mut i = 0;
     while i < n {
         let row = next_row(words, trip, from);

@@ -10,15 +10,16 @@ use mir.Syntax.{w32}
 use mir.Val.{SFits}
 use borrow.Author.Tests.{ltb-false, not-false}
 use Rattle.rules.specs.Rows.{Row, Table, none}
-use Rattle.rules.specs.Steps.{isStep, position, steps}
+use Rattle.rules.specs.Steps.{position, steps}
 use Rattle.rules.specs.Moves.{walked, frames, changeRow, changes, shownDoc}
 use Rattle.rules.specs.Words.{capacity, tableOf, rowsOf}
 use Rattle.rules.specs.Asks.{takenList, upcomingList, outlineOf}
 use Rattle.rules.specs.Saved.{saved, loaded}
 use Rattle.rules.specs.Calls.{Call, Answer, refusals, accepted, outcome, NoneGiven}
-use Rattle.laws.proofs.Tests.{test, count-most}
+use Rattle.laws.proofs.Tests.{test}
 use Rattle.laws.proofs.Calls.{by-ladder, outcome-accepted, outcome-refused}
 use Rattle.laws.proofs.Central.{position-steps}
+use Rattle.laws.proofs.Standing.{steps-most}
 use Rattle.laws.proofs.Lists.{taken-length, upcoming-length}
 use Rattle.laws.proofs.Trips.{saved-length, frames-few}
 use Rattle.sound.proofs.Checks.{examined-sound, examined-held}
@@ -44,11 +45,6 @@ module _ (c : Call) (a : Answer) (runs : List (List ℕ)) (values : List ℕ) (e
 
   given-is : accepted c .answer ≡ Answer.gives values
   given-is = ap (λ o. o .answer) (sym (outcome-accepted c not-refused) ∙ e) ∙ g
-
--- No more steps than rows.
-steps-most : (rows : List Row) → steps rows ≤ length rows
-unfolding steps
-steps-most rows = count-most (isStep rows) (length rows)
 
 module _ (words : List ℕ) (a : Answer) (runs : List (List ℕ)) where
   -- Position, steps and length.

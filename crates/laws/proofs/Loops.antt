@@ -29,6 +29,14 @@ module _ (p : ℕ → Bool) where
   pub all-done : (n i : ℕ) → i ≤ n → n ≤ i → allBelow i p ≡ true → true ≡ allBelow n p
   all-done n i a b all = sym (subst (λ k. allBelow k p ≡ true) (le-antisymm a b) all)
 
+  -- Every, kept in a flag up to the end.
+  pub all-flag : (i : ℕ) (a b : Bool) → a ≡ allBelow i p → b ≡ p i → (a && b) ≡ allBelow (i + 1) p
+  unfolding allBelow
+  all-flag i a b e f = rw (e, f, add-one i) refl
+
+  pub all-told : (n i : ℕ) (a : Bool) → i ≤ n → n ≤ i → a ≡ allBelow i p → a ≡ allBelow n p
+  all-told n i a l m e = e ∙ ap (λ k. allBelow k p) (le-antisymm l m)
+
   -- SOME
   pub some-none : someBelow 0 p ≡ false
   unfolding someBelow

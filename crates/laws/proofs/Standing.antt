@@ -1,5 +1,5 @@
 -- Where the window of a sound record stands: the steps before the earliest upcoming one are the taken ones. Assumes nothing.
-use Prim.Native.Nat.{ℕ, zero, suc, _+_, _≤_, _<_}
+use Prim.Native.Nat.{ℕ, zero, suc, _+_, _-_, _≤_, _<_}
 use mathlib.Core.Bool.{Bool, false, not, So, and-eq-true-iff}
 use mathlib.Core.List.{List}
 use mathlib.Core.Logic.{⊎-elim}
@@ -12,7 +12,7 @@ use Rattle.rules.specs.Below.{count, earliest, latest}
 use Rattle.rules.specs.Rows.{Row}
 use Rattle.rules.specs.Steps.{isStep, taken, upcoming, position, steps}
 use Rattle.rules.specs.Sound.{S6, S7}
-use Rattle.laws.proofs.Tests.{test, off, by-lt, some-out, count-zero, count-yes, count-no, count-mono, count-in, nth, earliest-is, latest-is}
+use Rattle.laws.proofs.Tests.{test, off, by-lt, some-out, count-zero, count-yes, count-no, count-mono, count-in, count-most, count-full, nth, earliest-is, latest-is}
 use Rattle.laws.proofs.Central.{position-steps}
 use Rattle.laws.proofs.Lists.{taken-is, upcoming-is}
 use Rattle.laws.proofs.Loops.{earliest-none}
@@ -25,6 +25,10 @@ count-rest p (suc n) =
     test (p n)
     (λ t. omega (arith, count-yes p n t, count-no (λ k. not (p k)) n (rw t refl)))
     (λ f. omega (arith, count-no p n f, count-yes (λ k. not (p k)) n (rw f refl)))
+
+pub steps-most : (rows : List Row) → steps rows ≤ length rows
+unfolding steps
+steps-most rows = count-most (isStep rows) (length rows)
 
 -- The latest of n is that of the first e, where no later one passes.
 latest-upto : (p q : ℕ → Bool) (n : ℕ) {e : ℕ} → e ≤ n → ((k : ℕ) → k < e → p k ≡ q k) → ((k : ℕ) → e ≤ k → k < n → p k ≡ false) → latest p n ≡ latest q e
@@ -65,6 +69,14 @@ module _ (rows : List Row) (s6 : S6 rows) (s7 : S7 rows) where
   -- The position is the number of steps before the earliest upcoming one.
   pub position-start : count (isStep rows) (earliest (upcoming rows) (length rows)) ≡ position rows
   position-start = start .1
+
+  -- Where no frame begins from the earliest upcoming step on, all rows from there on are upcoming.
+  pub rest-upcoming : length rows - steps rows + position rows ≡ earliest (upcoming rows) (length rows) →
+      (k : ℕ) → earliest (upcoming rows) (length rows) ≤ k → k < length rows → So (upcoming rows k)
+  unfolding steps
+  rest-upcoming e k a b =
+      let t = count-full (isStep rows) (length rows) {i = earliest (upcoming rows) (length rows)} (omega (arith, position-start, upto-start, count-most (isStep rows) (length rows))) k a b in
+      upcoming-is rows s6 s7 k b ∙ rw (t, le-ltb (count (isStep rows) k) (position rows) (omega (arith, position-start, count-mono (isStep rows) k a))) refl
 
   -- The latest taken step is the latest step before the earliest upcoming one.
   pub taken-start : latest (taken rows) (length rows) ≡ latest (isStep rows) (earliest (upcoming rows) (length rows))

@@ -141,6 +141,27 @@ module _ (p : ℕ → Bool) where
       (λ m. let h = count-misses n m f in test (p n) (λ t. omega (arith, count-yes n t)) (λ g. omega (arith, count-no n g)))
       (below-cases l)
 
+  -- From i up to n at most n - i pass: so many where all do, and all where it is so many.
+  count-near : (n : ℕ) {i : ℕ} → i ≤ n → count p n ≤ count p i + (n - i)
+  count-near zero {i} h = let e : i ≡ 0 = omega arith in rw e (omega arith)
+  count-near (suc n) {i} h =
+      ⊎-elim
+      (λ e. rw e (omega arith))
+      (λ l. let m = count-near n (le-of-suc-le-suc l) in test (p n) (λ t. omega (arith, count-yes n t)) (λ f. omega (arith, count-no n f)))
+      (eq-or-lt-of-le h)
+
+  pub count-run : (n : ℕ) {i : ℕ} → i ≤ n → ((k : ℕ) → i ≤ k → k < n → So (p k)) → count p n ≡ count p i + (n - i)
+  count-run zero {i} h all = let e : i ≡ 0 = omega arith in rw e (omega arith)
+  count-run (suc n) {i} h all =
+      ⊎-elim
+      (λ e. rw e (omega arith))
+      (λ l. omega (arith, count-yes n (all n (le-of-suc-le-suc l) (omega arith)), count-run n (le-of-suc-le-suc l) (λ k a b. all k a (omega arith))))
+      (eq-or-lt-of-le h)
+
+  pub count-full : (n : ℕ) {i : ℕ} → count p n ≡ count p i + (n - i) → (k : ℕ) → i ≤ k → k < n → So (p k)
+  count-full n {i} e k a b =
+      test (p k) (λ t. t) (λ f. absurd (omega (arith, count-near k a, count-no k f, count-near n {i = suc k} b)))
+
   -- Where all below n pass, n do.
   pub count-all : (n : ℕ) → ((i : ℕ) → i < n → So (p i)) → count p n ≡ n
   count-all zero h = count-zero
@@ -283,6 +304,16 @@ module _ {A : Type 0} where
     length-gather zero = refl
     length-gather (suc n) =
         test (p n) (λ t. rw t (length-append (gather p f n) (f n ∷ []) ∙ add-one _ ∙ ap suc (length-gather n))) (λ o. rw o (length-gather n))
+
+    -- Where none from i on passes, what is gathered stays.
+    pub gather-flat : (n : ℕ) {i : ℕ} → i ≤ n → ((k : ℕ) → i ≤ k → k < n → p k ≡ false) → gather p f n ≡ gather p f i
+    unfolding gather
+    gather-flat zero {i} h none = let e : i ≡ 0 = omega arith in rw e refl
+    gather-flat (suc n) {i} h none =
+        ⊎-elim
+        (λ e. rw e refl)
+        (λ l. rw (none n (le-of-suc-le-suc l) (omega arith)) (gather-flat n (le-of-suc-le-suc l) (λ k a b. none k a (omega arith))))
+        (eq-or-lt-of-le h)
 
     -- Number k comes to place `count p k`.
     pub gather-at : (n : ℕ) (d : A) {k : ℕ} → k < n → So (p k) → getD (gather p f n) (count p k) d ≡ f k

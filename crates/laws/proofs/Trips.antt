@@ -1,19 +1,22 @@
 -- Save, then Load: the table that was saved. Save's bytes have the length that document 01 says. Assumes nothing.
 use Prim.Native.Nat.{ℕ, _+_, _*_, _≤_, _<_}
-use mathlib.Core.Bool.{Bool, true, false, _&&_, So, and-eq-true-iff}
+use mathlib.Core.Bool.{Bool, true, false, not, _&&_, So, and-eq-true-iff}
 use mathlib.Core.List.{List}
 use mathlib.Core.Logic.{_≢_}
-use mathlib.Core.Path.{_≡_, refl, sym, ap, ap₂, subst, _∙_}
+use mathlib.Core.Path.{_≡_, refl, sym, ap, ap₂, _∙_}
 use native.Mathlib.Omega.{arith}
 use lib.Dec.{eqb}
 use lib.ListN.{length, getD}
-use borrow.Author.Tests.{eqb-true, eqb-false, eq-eqb, ne-eqb}
+use borrow.Author.Tests.{eqb-true, eqb-false, eq-eqb, ne-eqb, not-true}
 use Rattle.rules.specs.Below.{count, sum, gather}
 use Rattle.rules.specs.Rows.{Row, Table, rowAt, docAt, frameAt, parentAt, shownAt, isShown, inFrame, isFrame, inRecord, place, flag}
+use Rattle.rules.specs.Steps.{isStep, steps}
 use Rattle.rules.specs.Moves.{frames}
 use Rattle.rules.specs.Sound.{SoundTable}
 use Rattle.rules.specs.Saved.{docsOf, shownPlace, parentOf, saved, numberAt, documentsIn, toldRow, toldRows, loaded}
-use Rattle.laws.proofs.Tests.{test, clash, off, and-true, some-in, some-out, count-in, count-le, count-same, count-all, count-flat, count-zero, count-order, nth, one-out, least, earliest-is, latest-is, length-gather, gather-at, gather-from}
+use Rattle.laws.proofs.Tests.{test, clash, off, by-order, and-true, some-in, some-out, count-in, count-le, count-same, count-all, count-flat, count-zero, count-order, nth, one-out, one-in, least, earliest-is, latest-is, length-gather, gather-at, gather-from}
+use Rattle.laws.proofs.Frames.{step-in, step-out}
+use Rattle.laws.proofs.Standing.{count-rest}
 use Rattle.laws.proofs.Pieces.{sum-same, sum-within, sum-least, sum-ones, sum-classes, length-rising}
 use Rattle.laws.proofs.Numbers.{frameNo, documents, length-docs, length-saved, read-count, read-next-doc, read-next-frame, read-number, read-parent, read-documents, read-shown, read-body}
 use Rattle.laws.proofs.Told.{length-told, told-at, told-found, in-order}
@@ -29,6 +32,19 @@ no-documents rows f h =
     length-docsOf rows f
     ∙ count-flat (inFrame rows f) (length rows) {i = 0} (omega arith) (λ k a l. off _ (λ s. clash (some-in (inFrame rows f) (length rows) l s) h))
     ∙ count-zero (inFrame rows f)
+
+-- A frame has one first row.
+one-first : (rows : List Row) (f : ℕ) → So (isFrame rows f) → count (λ i. inFrame rows f i && not (isStep rows i)) (length rows) ≡ 1
+unfolding isFrame
+one-first rows f s =
+    let o = some-out (inFrame rows f) (length rows) s in
+    let k = least (inFrame rows f) (o .0) (o .2) in
+    let e = eqb-true (frameAt rows (k .0)) f (k .2) in
+    let first = off (isStep rows (k .0)) (λ t. let j = step-out (frameAt rows) (k .0) t in k .3 (j .0) (j .1) (eq-eqb (frameAt rows (j .0)) f (j .2 ∙ e))) in
+    one-in (λ i. inFrame rows f i && not (isStep rows i)) (length rows) (k .0) (omega arith) (simp and-eq-true-iff (k .2, rw first refl)) (λ i l u.
+    let v = simp and-eq-true-iff at u in
+    by-order i (k .0) (λ m. absurd (k .3 i m (v .0))) (λ m. m)
+    (λ m. absurd (clash (step-in (frameAt rows) m (e ∙ sym (eqb-true (frameAt rows i) f (v .0)))) (not-true _ (v .1)))))
 
 -- A row and a table are their fields.
 row-is : (d f p s : ℕ) (r : Row) → d ≡ r .doc → f ≡ r .frame → p ≡ r .parent → s ≡ r .shown → _≡_ {A = Row} (record { doc = d; frame = f; parent = p; shown = s }) r
@@ -62,20 +78,20 @@ module _ {room : ℕ} (t : Table) (sound : SoundTable room t) where
       let k = some-out (inFrame (t .rows) (frameNo t j)) (length (t .rows)) (frame-is j l .1) in
       omega (arith, length-docsOf (t .rows) (frameNo t j), count-in (inFrame (t .rows) (frameNo t j)) (length (t .rows)) (k .1) (k .2))
 
-  -- Each frame shows one row: there are as many frames as shown rows.
-  pub shown-frames : count (isShown (t .rows)) (length (t .rows)) ≡ length (frames t)
-  unfolding isFrame
-  shown-frames =
+  -- Every row is a step or the first of its frame.
+  pub steps-frames : steps (t .rows) + length (frames t) ≡ length (t .rows)
+  unfolding steps
+  steps-frames =
       let n = length (t .rows) in
-      let shownIn : ℕ → ℕ = λ f. count (λ i. inFrame (t .rows) f i && isShown (t .rows) i) n in
-      sym (sum-classes (frameAt (t .rows)) (isShown (t .rows)) n (t .nextFrame) (sound .s3 .below))
-      ∙ sum-ones shownIn (isFrame (t .rows)) (t .nextFrame)
-      (λ f s.
-      let k = some-out (inFrame (t .rows) f) n s in
-      subst (λ f. shownIn f ≡ 1) (eqb-true _ _ (k .2)) (sound .s6 .one (k .0) (k .1)))
+      let first : ℕ → Bool = λ i. not (isStep (t .rows) i) in
+      let firsts : count first n ≡ length (frames t) =
+      sym (sum-classes (frameAt (t .rows)) first n (t .nextFrame) (sound .s3 .below))
+      ∙ sum-ones (λ f. count (λ i. inFrame (t .rows) f i && first i) n) (isFrame (t .rows)) (t .nextFrame)
+      (one-first (t .rows))
       (λ f o.
-      omega (arith, count-le (λ i. inFrame (t .rows) f i && isShown (t .rows) i) (inFrame (t .rows) f) n (λ k l u. (simp and-eq-true-iff at u) .0), length-docsOf (t .rows) f, no-documents (t .rows) f o))
-      ∙ sym (length-gather (isFrame (t .rows)) (λ k. k) (t .nextFrame))
+      omega (arith, count-le (λ i. inFrame (t .rows) f i && first i) (inFrame (t .rows) f) n (λ k l u. (simp and-eq-true-iff at u) .0), length-docsOf (t .rows) f, no-documents (t .rows) f o))
+      ∙ sym (length-gather (isFrame (t .rows)) (λ k. k) (t .nextFrame)) in
+      omega (arith, count-rest (isStep (t .rows)) n)
 
   pub frames-few : length (frames t) ≤ length (t .rows)
   frames-few = omega (arith, sum-least (documents t) (length (frames t)) some-documents, all-documents)

@@ -1,6 +1,7 @@
 pub mod Spots
 pub mod Sizing
-pub mod Listing
+pub mod Merging
+pub mod Telling
 pub mod Placing
 pub mod Judging
 pub mod Filling

@@ -1,6 +1,6 @@
 -- Rows closed up in the words: what stands where, and the loop that does it. Assumes nothing.
-use Prim.Native.Nat.{ℕ, zero, suc, _+_, _*_, _/_, _%_, _≤_, _<_}
-use mathlib.Core.Bool.{Bool, So}
+use Prim.Native.Nat.{ℕ, zero, suc, _+_, _-_, _*_, _/_, _%_, _≤_, _<_}
+use mathlib.Core.Bool.{Bool, false, So}
 use mathlib.Core.List.{List, [], _∷_, _++_, flatMap, append-assoc}
 use mathlib.Core.Path.{_≡_, refl, sym, ap, ap₂, subst, _∙_}
 use native.Mathlib.Nat.{not-suc-le-zero, le-antisymm}
@@ -10,18 +10,21 @@ use lib.ListN.{length, getD, List·getD-append}
 use lib.Seq.{getD-append-add}
 use Rattle.rules.specs.Below.{count, earliest, gather}
 use Rattle.rules.specs.Rows.{Row, none, rowAt}
-use Rattle.rules.specs.Steps.{upcoming}
+use Rattle.rules.specs.Steps.{upcoming, position, steps}
 use Rattle.rules.specs.Moves.{without, cleared}
+use Rattle.rules.specs.Sound.{S6, S7}
 use Rattle.rules.specs.Words.{put, capacity, rowIn, tableOf, rowsOf, rowWords}
-use Rattle.laws.proofs.Tests.{test, count-yes, count-no, count-all, count-in, length-gather, gather-at, count-most}
+use Rattle.laws.proofs.Tests.{test, count-yes, count-no, count-flat, count-all, count-in, count-most, length-gather, gather-at, gather-flat}
+use Rattle.laws.proofs.Climb.{gone-self}
 use Rattle.laws.proofs.Removal.{SoundRows, sound-rows, stays}
+use Rattle.laws.proofs.Standing.{upto-start, rest-upcoming}
 use Rattle.laws.proofs.Words.{rows-length, rows-row, length-words}
 use Rattle.laws.proofs.Writes.{length-put, put-put, put-same, get-put-in, get-put-past, get-put-before}
 use Rattle.held.specs.Held.{Within}
 use Rattle.held.proofs.Nexts.{Earliest, earliest-out}
 use Rattle.sound.specs.Check.{Examined}
 use Rattle.sound.proofs.Checks.{examined-sound, examined-held}
-use Rattle.navigates.specs.Packing.{joins, Moved}
+use Rattle.navigates.specs.Packing.{joins, Ends, Moved}
 use Rattle.navigates.proofs.Judges.{cleared-length}
 use Rattle.navigates.proofs.Stays.{early-stays, joins-is}
 
@@ -91,6 +94,16 @@ over-same old held rs few h =
     in-row words i (suc (suc zero)) l = ap (λ j. getD words j 0) (omega arith)
     in-row words i (suc (suc (suc zero))) l = ap (λ j. getD words j 0) (omega arith)
     in-row words i (suc (suc (suc (suc c)))) l = absurd (omega arith)
+
+-- WHERE THE LOOP MAY END
+
+module _ (rows : List Row) (s6 : S6 rows) (s7 : S7 rows) where
+  -- At the earliest upcoming step, where no frame begins after it.
+  pub ends-early : (e : ℕ) → e ≡ earliest (upcoming rows) (length rows) → length rows - steps rows + position rows ≡ e → Ends rows e
+  ends-early e q g = subst (Ends rows) (sym q) (record { after = omega arith; upto = upto-start rows s6 s7; rest = rest-upcoming rows s6 s7 (g ∙ q) })
+
+  pub ends-last : (e : ℕ) → e ≡ length rows → Ends rows e
+  ends-last e q = record { after = omega (arith, upto-start rows s6 s7); upto = omega arith; rest = λ k a b. absurd (omega arith) }
 
 -- THE LOOP
 
@@ -184,9 +197,13 @@ module _ (old : List ℕ) (e : Examined old) (word : tableOf old .nextDoc ≤ no
           packed = m .words-are ∙ rw (t, f) (p .packed);
         }))
 
-    pub packed-ends : (i k : ℕ) (new : List ℕ) → Packed old i k new → i ≤ length (rowsOf old) → length (rowsOf old) ≤ i →
+    -- From `end` on no row stays.
+    pub packed-ends : (i k e : ℕ) (new : List ℕ) → Packed old i k new → Ends (rowsOf old) e → i ≤ e → e ≤ i →
         (k ≡ length (cleared (rowsOf old))) × (new ≡ put old 3 (flatMap rowWords (cleared (rowsOf old))))
     unfolding without
-    packed-ends i k new p a b =
+    packed-ends i k e new p ends a b =
         let q = subst (λ x. Packed old x k new) (le-antisymm a b) p in
-        (q .places ∙ sym (cleared-length (rowsOf old)), q .packed)
+        let none : (j : ℕ) → e ≤ j → j < length (rowsOf old) → keepIn old j ≡ false = λ j l m. rw (gone-self (upcoming (rowsOf old)) (rowsOf old) j (ends .rest j l m)) refl in (
+          q .places ∙ sym (count-flat (keepIn old) (length (rowsOf old)) (ends .upto) none) ∙ sym (cleared-length (rowsOf old)),
+          q .packed ∙ ap (λ rs. put old 3 (flatMap rowWords rs)) (sym (gather-flat (keepIn old) (rowAt (rowsOf old)) (length (rowsOf old)) (ends .upto) none)),
+        )

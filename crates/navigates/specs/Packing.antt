@@ -1,17 +1,23 @@
 -- What a row moved down, and the words after the gaps are closed, are. Definitions.
-use Prim.Native.Nat.{ℕ, _+_, _-_, _*_}
-use mathlib.Core.Bool.{Bool, not, _&&_, cond}
+use Prim.Native.Nat.{ℕ, _+_, _-_, _*_, _≤_, _<_}
+use mathlib.Core.Bool.{Bool, not, _&&_, So, cond}
 use mathlib.Core.List.{List, [], _∷_}
 use mathlib.Core.Path.{_≡_}
-use lib.ListN.{replicate}
-use Rattle.rules.specs.Below.{someBelow}
+use lib.ListN.{length, replicate}
+use Rattle.rules.specs.Below.{someBelow, earliest}
 use Rattle.rules.specs.Rows.{Row, rowAt, frameAt, parentAt, isDoc}
-use Rattle.rules.specs.Steps.{same}
+use Rattle.rules.specs.Steps.{same, upcoming}
 use Rattle.rules.specs.Words.{put, rowsOf, rowWords}
 
 -- Of the rows before k none is of row i's frame, and one holds its parent.
 unfoldable pub joins : List Row → ℕ → ℕ → Bool
 joins rows k i = not (someBelow k (same (frameAt rows) i)) && someBelow k (isDoc rows (parentAt rows i))
+
+-- From place e on, which is not before the earliest upcoming step, all rows are upcoming steps.
+pub record Ends (rows : List Row) (e : ℕ) : Type 0 where
+  pub after : earliest (upcoming rows) (length rows) ≤ e
+  pub upto : e ≤ length rows
+  pub rest : (k : ℕ) → e ≤ k → k < length rows → So (upcoming rows k)
 
 -- Row i moved down to place k if it joins the rows there, and the next free place.
 pub record Moved (old : List ℕ) (i k next : ℕ) (new : List ℕ) : Type 0 where

@@ -24,7 +24,7 @@ ghost use Rattle.held.specs.Held.{Within};
 ghost use Rattle.sound.specs.Check.{Examined, Settles, Judged};
 ghost use Rattle.sound.specs.Survey.{Located};
 ghost use Rattle.navigates.specs.Answers.{navigatedIs, roomRungs};
-ghost use Rattle.navigates.specs.Packing.{joins, Moved, settled};
+ghost use Rattle.navigates.specs.Packing.{joins, Ends, Moved, settled};
 
 // Whether no row is left after the removal: only where nothing goes and all rows are in use.
 fn is_full(words: &[u32], s: Stand) -> bool
@@ -101,14 +101,27 @@ fn keep_row(words: &mut [u32], at: RowPlace, k: usize) -> usize
     k + 1
 }
 
-// Removes what goes and closes the gaps: the rows before the first upcoming step stay where they are. How many rows stay.
-fn close_gaps(words: &mut [u32], start: RowPlace, n: usize) -> usize
-    requires { ⌜ Examined (now words) × (tableOf (now words) .nextDoc ≤ none) × (start .0 ≡ earliest (upcoming (rowsOf (now words))) (length (rowsOf (now words)))) × (n ≡ length (rowsOf (now words))) ⌝ }
+// A place from which on all rows are upcoming steps: that of the earliest, where no frame begins after it, else the rows' end.
+fn removal_end(words: &[u32], s: Stand) -> RowPlace
+    requires { ⌜ Located (now words) s ⌝ }
+    ensures { λ r. ⌜ Ends (rowsOf (now (words .entry))) (r .0) ⌝ }
+{
+    let n = rows::row_count(words);
+    if n - s.steps + s.position == s.upcoming.0 {
+        return s.upcoming;
+    }
+    RowPlace(n)
+}
+
+// Removes what goes and closes the gaps: the rows before the first upcoming step stay where they are, and none stays from `end` on. How many rows stay.
+fn close_gaps(words: &mut [u32], start: RowPlace, end: RowPlace) -> usize
+    requires { ⌜ Examined (now words) × (tableOf (now words) .nextDoc ≤ none) × (start .0 ≡ earliest (upcoming (rowsOf (now words))) (length (rowsOf (now words)))) × Ends (rowsOf (now words)) (end .0) ⌝ }
     ensures { λ r. ⌜ (r ≡ length (cleared (rowsOf (now (words .entry))))) × (now (words .exit) ≡ put (now (words .entry)) 3 (flatMap rowWords (cleared (rowsOf (now (words .entry)))))) ⌝ }
 {
+    let last = end.0;
     let mut k = start.0;
     let mut i = start.0;
-    while i < n {
+    while i < last {
         k = keep_row(words, RowPlace(i), k);
         i += 1;
     }
@@ -148,15 +161,16 @@ fn settle(words: &mut [u32], at: RowPlace, k: usize, n: usize, d: DocNo, next: F
     writes::put_head(words, k + 1, DocNo(d.0 + 1), next);
 }
 
-// Navigates where no refusal is given and the removal begins at a place. The new document.
-fn go_from(words: &mut [u32], start: RowPlace, from: DocNo) -> DocNo
-    requires { ⌜ NoneGiven (refusals (Call.Navigate (now words) (from .0))) × (start .0 ≡ earliest (upcoming (rowsOf (now words))) (length (rowsOf (now words)))) ⌝ }
+// Navigates where no refusal is given, in a sound record that stands so. The new document.
+fn go_from(words: &mut [u32], s: Stand, from: DocNo) -> DocNo
+    requires { ⌜ Located (now words) s × NoneGiven (refusals (Call.Navigate (now words) (from .0))) ⌝ }
     ensures { λ r. ⌜ (r .0 ≡ tableOf (now (words .entry)) .nextDoc) × (now (words .exit) ≡ written (now (words .entry)) (navigated (tableOf (now (words .entry))) (from .0))) ⌝ }
 {
     let n = rows::row_count(words);
     let d = rows::next_document(words);
     let next = rows::next_frame_number(words);
-    let k = close_gaps(words, start, n);
+    let end = removal_end(words, s);
+    let k = close_gaps(words, s.upcoming, end);
     let at = place_before(words, k, from);
     settle(words, at, k, n, d, next);
     d
@@ -173,10 +187,9 @@ fn navigate_from(words: &mut [u32], s: Stand, from: DocNo) -> Navigated
     requires { ⌜ Located (now words) s ⌝ }
     ensures { λ r. ⌜ outcome (Call.Navigate (now (words .entry)) (from .0)) ≡ record { answer = navigatedIs r; lent = now (words .exit) ∷ [] } ⌝ }
 {
-    let start = s.upcoming;
     match judge(words, s, from) {
         Check::No(r) => Navigated::Refused(r),
-        Check::Sound => Navigated::Arrived(go_from(words, start, from)),
+        Check::Sound => Navigated::Arrived(go_from(words, s, from)),
     }
 }
 

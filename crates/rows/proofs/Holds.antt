@@ -80,9 +80,9 @@ module _ (words : List ℕ) where
       found-own (rowsOf words) i i f r g h ∙ rw (lt-ltb i (length (heldRows words)) (omega arith), held-rows (held-within i (omega arith) .held)) refl
 
   -- The lowest frame number from a bound on.
-  pub next-none : (n from top : ℕ) → n ≡ length (heldRows words) → n ≡ 0 → top ≡ tableOf words .nextFrame → top ≡ lowestOf (heldRows words) (length (heldRows words)) from (tableOf words .nextFrame)
-  next-none n from top e z t = lowest-done (heldRows words) from (tableOf words .nextFrame) 0 (length (heldRows words)) top (lowest-none (heldRows words) from (tableOf words .nextFrame) top t) (omega arith) (omega arith)
+  pub next-none : (n from top : ℕ) → n ≡ length (heldRows words) → n ≡ 0 → top ≡ tableOf words .nextFrame → top ≡ lowestOf (heldRows words) 0 (length (heldRows words)) from (tableOf words .nextFrame)
+  next-none n from top e z t = lowest-done (heldRows words) 0 from (tableOf words .nextFrame) (length (heldRows words)) 0 top (lowest-none (heldRows words) 0 from (tableOf words .nextFrame) top t) (omega arith) (λ k l m n. absurd (omega arith))
 
-  pub next-held : (n from top r : ℕ) → n ≡ length (heldRows words) → 0 < n → top ≡ tableOf words .nextFrame → r ≡ lowestOf (rowsOf words) n from top →
-      r ≡ lowestOf (heldRows words) (length (heldRows words)) from (tableOf words .nextFrame)
+  pub next-held : (n from top r : ℕ) → n ≡ length (heldRows words) → 0 < n → top ≡ tableOf words .nextFrame → r ≡ lowestOf (rowsOf words) 0 n from top →
+      r ≡ lowestOf (heldRows words) 0 (length (heldRows words)) from (tableOf words .nextFrame)
   next-held n from top r e l t h = h ∙ rw (← held-rows (held-within 0 (omega arith) .held), e, t) refl

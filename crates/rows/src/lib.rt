@@ -125,12 +125,12 @@ pub fn previous(words: &[u32], at: RowPlace) -> Found
 
 // The lowest frame number of the rows held from a bound on; the next frame number where there is none.
 pub fn next_frame(words: &[u32], from: FrameNo) -> FrameNo
-    ensures { λ r. ⌜ r .0 ≡ lowestOf (heldRows (now (words .entry))) (length (heldRows (now (words .entry)))) (from .0) (tableOf (now (words .entry)) .nextFrame) ⌝ }
+    ensures { λ r. ⌜ r .0 ≡ lowestOf (heldRows (now (words .entry))) 0 (length (heldRows (now (words .entry)))) (from .0) (tableOf (now (words .entry)) .nextFrame) ⌝ }
 {
     let top = next_frame_number(words);
     let n = held_count(words);
     if 0 < n {
-        return held::lowest_of(words, RowPlace(n), from, top);
+        return held::lowest_of(words, RowPlace(0), RowPlace(n), from, top);
     }
     top
 }

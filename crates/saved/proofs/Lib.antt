@@ -4,3 +4,4 @@ pub mod Lengths
 pub mod Sketching
 pub mod Parts
 pub mod Saves
+pub mod Walking

@@ -1,6 +1,6 @@
 -- What the pass tells of where the window of a sound record stands. Assumes nothing.
-use Prim.Native.Nat.{ℕ, _+_, _-_, _≤_}
-use mathlib.Core.Bool.{So}
+use Prim.Native.Nat.{ℕ, _-_, _≤_}
+use mathlib.Core.Bool.{not, So, cond}
 use mathlib.Core.List.{List}
 use mathlib.Core.Path.{_≡_, sym, ap, _∙_}
 use native.Mathlib.Omega.{arith}
@@ -9,6 +9,8 @@ use Rattle.rules.specs.Below.{count, earliest, latest}
 use Rattle.rules.specs.Steps.{isStep, taken, upcoming, position, steps}
 use Rattle.rules.specs.Words.{rowsOf}
 use Rattle.rules.specs.Sound.{sound?}
+use Rattle.laws.proofs.Tests.{test, count-most}
+use Rattle.laws.proofs.Loops.{earliest-none}
 use Rattle.laws.proofs.Reflect.{sound-is}
 use Rattle.laws.proofs.Standing.{count-rest, position-start, taken-start}
 use Rattle.sound.specs.Quick.{comes}
@@ -24,30 +26,39 @@ module _ (words : List ℕ) (sound : So (sound? words)) (p : Pass) (w : Passed (
   start-is : start ≡ earliest (upcoming (rowsOf words)) (length (rowsOf words))
   start-is = let s = sound-is words .0 sound .table in comes-start (rowsOf words) (s .s6) (s .s7)
 
-  -- The first rows of frames before the start are those that the pass did not count from there on.
-  pub opened-before : p .frames ≤ n - p .ahead + p .opened
-  opened-before = let a = w .ahead-is in let b = w .opened-is in omega (arith, count-rest (isStep (rowsOf words)) start)
+  -- The place of the earliest upcoming step, and the frames that began before it, where there is one; else the rows' end, and all frames.
+  abbrev here : ℕ
+  here = cond (p .late) (p .upcoming .0) n
+
+  abbrev begun : ℕ
+  begun = cond (p .late) (p .begun) (p .frames)
+
+  here-is : here ≡ start
+  here-is = test (p .late) (λ t. rw t (w .upcoming-is t)) (λ f. rw f (all ∙ sym (earliest-none (comes (rowsOf words)) (length (rowsOf words)) (sym (w .late-is) ∙ f))))
+
+  begun-is : begun ≡ count (λ k. not (isStep (rowsOf words) k)) start
+  begun-is =
+      test (p .late) (λ t. rw t (w .begun-is t)) (λ f.
+      rw f (w .frames-are ∙ ap (count (λ k. not (isStep (rowsOf words) k))) (sym (earliest-none (comes (rowsOf words)) (length (rowsOf words)) (sym (w .late-is) ∙ f)))))
+
+  pub begun-before : begun ≤ here
+  begun-before = omega (arith, here-is, begun-is, count-most (λ k. not (isStep (rowsOf words) k)) start)
 
   stand-steps : n - p .frames ≡ steps (rowsOf words)
   unfolding steps
   stand-steps = let a = w .frames-are in omega (arith, count-rest (isStep (rowsOf words)) (length (rowsOf words)))
 
-  stand-position : n - p .ahead + p .opened - p .frames ≡ position (rowsOf words)
+  stand-position : here - begun ≡ position (rowsOf words)
   stand-position =
       let s = sound-is words .0 sound .table in
-      let a = w .ahead-is in
-      let b = w .opened-is in
-      omega (arith, count-rest (isStep (rowsOf words)) start, ap (count (isStep (rowsOf words))) start-is ∙ position-start (rowsOf words) (s .s6) (s .s7))
-
-  stand-upcoming : n - p .ahead ≡ earliest (upcoming (rowsOf words)) (length (rowsOf words))
-  stand-upcoming = let a = w .ahead-is in omega (arith, start-is)
+      omega (arith, here-is, begun-is, count-rest (isStep (rowsOf words)) start, ap (count (isStep (rowsOf words))) start-is ∙ position-start (rowsOf words) (s .s6) (s .s7))
 
   stand-last : p .last .0 ≡ latest (taken (rowsOf words)) (length (rowsOf words))
   stand-last =
       let s = sound-is words .0 sound .table in
       w .last-is ∙ ap (latest (isStep (rowsOf words))) start-is ∙ sym (taken-start (rowsOf words) (s .s6) (s .s7))
 
-  pub stand-is : record { steps = n - p .frames; position = n - p .ahead + p .opened - p .frames; upcoming = record { 0 = n - p .ahead }; last = p .last } ≡ standOf (rowsOf words)
+  pub stand-is : record { steps = n - p .frames; position = here - begun; upcoming = record { 0 = here }; last = p .last } ≡ standOf (rowsOf words)
   stand-is =
-      rw (stand-steps, stand-position, stand-upcoming) (ap (λ k.
+      rw (stand-steps, stand-position, here-is ∙ start-is) (ap (λ k.
       record { steps = steps (rowsOf words); position = position (rowsOf words); upcoming = record { 0 = earliest (upcoming (rowsOf words)) (length (rowsOf words)) }; last = record { 0 = k } }) stand-last)

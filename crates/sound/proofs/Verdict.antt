@@ -14,7 +14,7 @@ use Rattle.rules.specs.Sound.{S1, s8?, soundTable?, sound?}
 use Rattle.laws.proofs.Tests.{test, off, and-true}
 use Rattle.laws.proofs.Reflect.{sound-is}
 use Rattle.sound.specs.Quick.{rowFine, evenly, quick?}
-use Rattle.sound.specs.Pass.{Passed, Tells}
+use Rattle.sound.specs.Pass.{Passed, TellsTo, Tells}
 use Rattle.sound.specs.declared.Pass.{Pass}
 use Rattle.sound.specs.declared.Tested.{Tested}
 use Rattle.sound.specs.declared.Tested.the-variants.{Fails, Holds}
@@ -33,12 +33,12 @@ module _ (rows : List Row) (nextDoc nextFrame n a b : ℕ) (named : a ≡ docAt 
   quick-goes r t = subst (λ x. Tells rows x r) (rw (sym last-is ∙ t) (test (allBelow (length rows) (rowFine rows nextFrame)) (λ t. rw t refl) (λ t. rw t refl)))
 
 -- What was tested, by what the code found.
-module _ (rows : List Row) (b : Bool) (r : Tested) (told : Tells rows b r) where
+module _ (rows : List Row) (i : ℕ) (b : Bool) (r : Tested) (told : TellsTo rows i b r) where
   pub told-fails : r ≡ Fails → b ≡ false
-  told-fails e = subst (Tells rows b) e told
+  told-fails e = subst (TellsTo rows i b) e told
 
-  pub told-holds : (p : Pass) → r ≡ Holds p → (b ≡ true) × Passed rows (length rows) p
-  told-holds p e = subst (Tells rows b) e told
+  pub told-holds : (p : Pass) → r ≡ Holds p → (b ≡ true) × Passed rows i p
+  told-holds p e = subst (TellsTo rows i b) e told
 
 module _ (words : List ℕ) where
   unsound : (S1 (capacity words) (rowsOf words) → ⊥) → sound? words ≡ false

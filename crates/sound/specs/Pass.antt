@@ -1,9 +1,11 @@
 -- What the pass of the test has seen. Definitions.
-use Prim.Native.Nat.{ℕ, _+_, _≤_, _<_}
-use mathlib.Core.Bool.{Bool, true, false, not, So}
+use Prim.Native.Nat.{ℕ, _≤_, _<_}
+use mathlib.Core.Bool.{Bool, true, false, not, So, cond}
 use mathlib.Core.List.{List}
 use mathlib.Core.Path.{_≡_}
+use lib.Dec.{eqb}
 use lib.ListN.{length}
+use Rattle.base.specs.declared.RowPlace.{RowPlace}
 use Rattle.rules.specs.Below.{someBelow, allBelow, count, earliest, latest}
 use Rattle.rules.specs.Rows.{Row, frameAt, shownAt, isShown, isDoc}
 use Rattle.rules.specs.Moves.{rowBefore}
@@ -16,7 +18,6 @@ use Rattle.sound.specs.declared.Tested.the-variants.{Fails, Holds}
 
 -- p tells of the rows before i.
 pub record Passed (rows : List Row) (i : ℕ) (p : Pass) : Type 0 where
-  pub fine-is : p .fine ≡ allBelow i (joined rows)
   pub late-is : p .late ≡ someBelow i (comes rows)
   pub shown-are : p .shown ≡ count (isShown rows) i
   pub frames-are : p .frames ≡ count (λ k. not (isStep rows k)) i
@@ -24,14 +25,14 @@ pub record Passed (rows : List Row) (i : ℕ) (p : Pass) : Type 0 where
   pub few-frames : p .frames ≤ i
   pub under : Under (frameAt rows) i (p .high .0)
   pub known-is : someBelow i (isDoc rows (p .known .0)) ≡ true
-  pub ahead-is : p .ahead + earliest (comes rows) i ≡ i
-  pub opened-is : p .opened + count (λ k. not (isStep rows k)) (earliest (comes rows) i) ≡ p .frames
+  pub upcoming-is : p .late ≡ true → p .upcoming .0 ≡ earliest (comes rows) i
+  pub begun-is : p .late ≡ true → p .begun ≡ count (λ k. not (isStep rows k)) (earliest (comes rows) i)
   pub last-is : p .last .0 ≡ latest (isStep rows) (earliest (comes rows) i)
 
--- So far all is fine, and the flag of row i is 0 or 1.
+-- So far all rows join, and the flag of row i is 0 or 1.
 pub record Onward (rows : List Row) (i : ℕ) (p : Pass) : Type 0 where
   pub passed : Passed rows i p
-  pub fine : p .fine ≡ true
+  pub join : allBelow i (joined rows) ≡ true
   pub bit : shownAt rows i ≤ 1
 
 -- Row i is a step, and j is the row before it in its frame.
@@ -40,7 +41,25 @@ pub record StepAfter (rows : List Row) (i j : ℕ) : Type 0 where
   pub prior : j ≡ rowBefore rows i
   pub lower : j < i
 
--- The test whose answer by definition is b fails, or it holds, and the pass tells of all rows.
+-- The test whose answer by definition is b fails, or it holds, and the pass tells of the rows before i.
+abbrev pub TellsTo : List Row → ℕ → Bool → Tested → Type 0
+TellsTo rows i b Fails = b ≡ false
+TellsTo rows i b (Holds p) = (b ≡ true) × Passed rows i p
+
+-- The same of all rows.
 abbrev pub Tells : List Row → Bool → Tested → Type 0
-Tells rows b Fails = b ≡ false
-Tells rows b (Holds p) = (b ≡ true) × Passed rows (length rows) p
+Tells rows = TellsTo rows (length rows)
+
+-- The pass with an upcoming step more whose flag is s: it must not be shown.
+abbrev pub upcomingOf : ℕ → RowPlace → ℕ → Pass → Tested
+upcomingOf s upcoming begun p =
+    cond (eqb s 0) (Holds (record {
+      late = true;
+      shown = p .shown;
+      frames = p .frames;
+      high = p .high;
+      known = p .known;
+      upcoming = upcoming;
+      begun = begun;
+      last = p .last;
+    })) Fails

@@ -20,23 +20,28 @@ ghost use Rattle.rules.specs.Words.{capacity, tableOf, rowsOf};
 ghost use Rattle.rules.specs.Sound.{s8?, sound?};
 ghost use Rattle.rules.specs.Calls.{short};
 ghost use Rattle.held.specs.Held.{Within};
-ghost use Rattle.sound.specs.Quick.{bounded, plain, rowFine, evenly, quick?};
-ghost use Rattle.sound.specs.Pass.{Passed, Onward, StepAfter, Tells};
+ghost use Rattle.sound.specs.Quick.{bounded, plain, joined, rowFine, evenly, quick?};
+ghost use Rattle.sound.specs.Pass.{Passed, Onward, StepAfter, TellsTo, Tells, upcomingOf};
 ghost use Rattle.sound.specs.Check.{checkOf};
 ghost use Rattle.sound.specs.Survey.{standOf, surveyOf};
 
-// What a pass knows of the rows behind it: all joined rightly, some upcoming, how many shown, how many frames, a bound on the frame numbers, the parent found last;
-// how many rows there are from the first upcoming one on, how many of them are the first of a frame, and the latest step before them.
+// What a pass knows of the rows behind it: some upcoming, how many shown, how many frames, a bound on the frame numbers, the parent found last; of the first
+// upcoming one its place and how many frames had begun before it; and the latest step before that.
 pub struct Pass {
-    pub fine: bool,
     pub late: bool,
     pub shown: usize,
     pub frames: usize,
     pub high: FrameNo,
     pub known: DocNo,
-    pub ahead: usize,
-    pub opened: usize,
+    pub upcoming: RowPlace,
+    pub begun: usize,
     pub last: RowPlace,
+}
+
+// What the test found: a rule that fails, or that all hold so far, with what the pass knows.
+enum Tested {
+    Fails,
+    Holds(Pass),
 }
 
 // Whether the parent of a row is the document of an earlier one, where `known` is.
@@ -80,84 +85,98 @@ fn pass_start(words: &[u32]) -> Pass
     let shown = held::shown(words, at) as usize;
     let high = held::frame(words, at);
     let known = held::document(words, at);
-    let root = held::parent(words, at).0 == NONE;
     Pass {
-        fine: root,
         late: false,
         shown,
         frames: 1,
         high,
         known,
-        ahead: 0,
-        opened: 0,
+        upcoming: RowPlace(0),
+        begun: 0,
         last: RowPlace(0),
     }
 }
 
-// The latest step before the upcoming ones, with the step at `at` more.
-fn last_step(late: bool, at: RowPlace, last: RowPlace) -> RowPlace
-    ensures { λ r. ⌜ r .0 ≡ cond late (last .0) (at .0) ⌝ }
+// The pass with an upcoming step more, which must not be shown; the place of the first one, and how many frames had begun before it.
+fn pass_upcoming(shown: u32, upcoming: RowPlace, begun: usize, p: Pass) -> Tested
+    ensures { λ r. ⌜ r ≡ upcomingOf shown upcoming begun p ⌝ }
 {
-    if late { last } else { at }
+    if shown != 0 {
+        return Tested::Fails;
+    }
+    let high = p.high;
+    let known = p.known;
+    let last = p.last;
+    Tested::Holds(Pass {
+        late: true,
+        shown: p.shown,
+        frames: p.frames,
+        high,
+        known,
+        upcoming,
+        begun,
+        last,
+    })
 }
 
 // The pass with a step more, after the row before it in its frame.
-fn pass_step(words: &[u32], at: RowPlace, prior: RowPlace, p: Pass) -> Pass
+fn pass_step(words: &[u32], at: RowPlace, prior: RowPlace, p: Pass) -> Tested
     requires { ⌜ Within (now words) (at .0) × Onward (rowsOf (now words)) (at .0) p × StepAfter (rowsOf (now words)) (at .0) (prior .0) ⌝ }
-    ensures { λ r. ⌜ Passed (rowsOf (now (words .entry))) (at .0 + 1) r ⌝ }
+    ensures { λ r. ⌜ TellsTo (rowsOf (now (words .entry))) (at .0 + 1) (joined (rowsOf (now (words .entry))) (at .0)) r ⌝ }
 {
-    let late = p.late | held::is_shown(words, prior);
-    let linked = held::parent(words, at).0 == held::parent(words, prior).0;
+    if held::parent(words, at).0 != held::parent(words, prior).0 {
+        return Tested::Fails;
+    }
     let shown = held::shown(words, at);
+    if p.late {
+        return pass_upcoming(shown, p.upcoming, p.begun, p);
+    }
+    if held::is_shown(words, prior) {
+        return pass_upcoming(shown, at, p.frames, p);
+    }
     let high = p.high;
     let known = p.known;
-    let last = last_step(late, at, p.last);
-    Pass {
-        fine: linked & ((shown == 0) | !late),
-        late,
+    let upcoming = p.upcoming;
+    Tested::Holds(Pass {
+        late: false,
         shown: p.shown + shown as usize,
         frames: p.frames,
         high,
         known,
-        ahead: p.ahead + late as usize,
-        opened: p.opened,
-        last,
-    }
-}
-
-// The parent that is known now.
-fn known_now(found: bool, up: DocNo, known: DocNo) -> DocNo
-    ensures { λ r. ⌜ r .0 ≡ cond found (up .0) (known .0) ⌝ }
-{
-    if found { up } else { known }
+        upcoming,
+        begun: p.begun,
+        last: at,
+    })
 }
 
 // The pass with the first row of a frame more.
-fn pass_first(words: &[u32], at: RowPlace, p: Pass) -> Pass
+fn pass_first(words: &[u32], at: RowPlace, p: Pass) -> Tested
     requires { ⌜ Within (now words) (at .0) × Onward (rowsOf (now words)) (at .0) p × (0 < at .0) × (isStep (rowsOf (now words)) (at .0) ≡ false) ⌝ }
-    ensures { λ r. ⌜ Passed (rowsOf (now (words .entry))) (at .0 + 1) r ⌝ }
+    ensures { λ r. ⌜ TellsTo (rowsOf (now (words .entry))) (at .0 + 1) (joined (rowsOf (now (words .entry))) (at .0)) r ⌝ }
 {
-    let linked = has_parent(words, at, p.known);
+    if !has_parent(words, at, p.known) {
+        return Tested::Fails;
+    }
     let high = held::higher(p.high, held::frame(words, at));
-    let known = known_now(linked, held::parent(words, at), p.known);
+    let known = held::parent(words, at);
+    let upcoming = p.upcoming;
     let last = p.last;
-    Pass {
-        fine: linked,
+    Tested::Holds(Pass {
         late: p.late,
         shown: p.shown + held::shown(words, at) as usize,
         frames: p.frames + 1,
         high,
         known,
-        ahead: p.ahead + p.late as usize,
-        opened: p.opened + p.late as usize,
+        upcoming,
+        begun: p.begun,
         last,
-    }
+    })
 }
 
 // The pass with one row more.
-fn pass_row(words: &[u32], at: RowPlace, p: Pass) -> Pass
+fn pass_row(words: &[u32], at: RowPlace, p: Pass) -> Tested
     requires { ⌜ Within (now words) (at .0) × Onward (rowsOf (now words)) (at .0) p × (0 < at .0) ⌝ }
-    ensures { λ r. ⌜ Passed (rowsOf (now (words .entry))) (at .0 + 1) r ⌝ }
+    ensures { λ r. ⌜ TellsTo (rowsOf (now (words .entry))) (at .0 + 1) (joined (rowsOf (now (words .entry))) (at .0)) r ⌝ }
 {
     match held::previous_under(words, at, p.high) {
         Found::At(prior) => pass_step(words, at, prior, p),
@@ -165,10 +184,13 @@ fn pass_row(words: &[u32], at: RowPlace, p: Pass) -> Pass
     }
 }
 
-// What the test found: a rule that fails, or that all hold, with what the pass knows of all rows.
-enum Tested {
-    Fails,
-    Holds(Pass),
+// Whether the record's first row keeps the rules.
+fn is_root(words: &[u32], top: FrameNo) -> bool
+    requires { ⌜ Within (now words) 0 ⌝ }
+    ensures { λ r. ⌜ r ≡ rowFine (rowsOf (now (words .entry))) (top .0) 0 ⌝ }
+{
+    let at = RowPlace(0);
+    is_bounded(words, at, top) & (held::parent(words, at).0 == NONE)
 }
 
 // Whether every row keeps the rules, and as many are shown as there are frames.
@@ -176,21 +198,24 @@ fn rows_pass(words: &[u32], n: usize, top: FrameNo) -> Tested
     requires { ⌜ Within (now words) 0 × (n ≡ length (rowsOf (now words))) ⌝ }
     ensures { λ r. ⌜ Tells (rowsOf (now (words .entry))) (allBelow (length (rowsOf (now (words .entry)))) (rowFine (rowsOf (now (words .entry))) (top .0)) && evenly (rowsOf (now (words .entry)))) r ⌝ }
 {
-    if !is_bounded(words, RowPlace(0), top) {
+    if !is_root(words, top) {
         return Tested::Fails;
     }
     let mut p = pass_start(words);
     let mut before = held::document(words, RowPlace(0));
     let mut i = 1;
     while i < n {
-        if !(p.fine & is_plain(words, RowPlace(i), before, top)) {
+        if !is_plain(words, RowPlace(i), before, top) {
             return Tested::Fails;
         }
+        let Tested::Holds(q) = pass_row(words, RowPlace(i), p) else {
+            return Tested::Fails;
+        };
         before = held::document(words, RowPlace(i));
-        p = pass_row(words, RowPlace(i), p);
+        p = q;
         i += 1;
     }
-    if p.fine & (p.shown == p.frames) {
+    if p.shown == p.frames {
         Tested::Holds(p)
     } else {
         Tested::Fails
@@ -290,14 +315,21 @@ pub struct Stand {
     pub last: RowPlace,
 }
 
+// One number where some step is upcoming, else the other.
+fn if_late(late: bool, a: usize, b: usize) -> usize
+    ensures { λ r. ⌜ r ≡ cond late a b ⌝ }
+{
+    if late { a } else { b }
+}
+
 // Where the window of a sound record stands, by what the pass knows of all its rows.
 fn stand_of(words: &[u32], p: Pass) -> Stand
     requires { ⌜ (sound? (now words) ≡ true) × Passed (rowsOf (now words)) (length (rowsOf (now words))) p ⌝ }
     ensures { λ r. ⌜ r ≡ standOf (rowsOf (now (words .entry))) ⌝ }
 {
     let n = rows::row_count(words);
-    let start = n - p.ahead;
-    let position = start + p.opened - p.frames;
+    let start = if_late(p.late, p.upcoming.0, n);
+    let position = start - if_late(p.late, p.begun, p.frames);
     let last = p.last;
     Stand {
         steps: n - p.frames,

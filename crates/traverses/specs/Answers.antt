@@ -12,7 +12,7 @@ use Rattle.traverses.specs.declared.Traversed.the-variants.{Changes, Ref
 use Rattle.traverses.specs.declared.Trip.{Trip}
 use Rattle.traverses.specs.declared.Shifted.{Shifted}
 use Rattle.traverses.specs.declared.Shifted.the-variants.{Went, Stayed}
-use Rattle.traverses.specs.Texts.{placesText, Ready}
+use Rattle.traverses.specs.Texts.{placesText, Begins, Ready}
 
 -- The number of change rows, or the refusal's number.
 abbrev pub traversedIs : Traversed → Answer
@@ -26,11 +26,15 @@ answerOf (Stayed r) = Refused r
 
 abbrev pub tripOf : Shifted → Trip
 tripOf (Went t) = t
-tripOf (Stayed r) = record { before = record { 0 = 0 }; after = record { 0 = 0 }; count = 0 }
+tripOf (Stayed r) = record { before = record { 0 = 0 }; after = record { 0 = 0 }; first = record { 0 = 0 }; count = 0 }
 
 -- The words of a trip's change rows, read in the record that it left.
 abbrev pub tripText : List ℕ → Trip → List ℕ
 tripText words t = placesText (tableOf words) (t .before .0) (t .after .0)
+
+-- They are of frames from the trip's first on.
+abbrev pub TripBegins : List ℕ → Trip → Type 0
+TripBegins words t = Begins (tableOf words) (t .before .0) (t .after .0) (t .first .0)
 
 -- Where the record went, its change rows can be read.
 abbrev pub Arrived : List ℕ → Shifted → Type 0
@@ -42,6 +46,7 @@ pub record Shifts (words : List ℕ) (δ : ℤ) (room : ℕ) (s : Shifted) (word
   pub outcome-is : (lent : List ℕ) → length lent / 4 ≡ room →
       outcome (Call.Traverse words δ lent) ≡ record { answer = traversedIs (answerOf s); lent = words' ∷ put lent 0 (tripText words' (tripOf s)) ∷ [] }
   pub sized : 4 * tripOf s .count ≡ length (tripText words' (tripOf s))
+  pub begins : TripBegins words' (tripOf s)
   pub fits : tripOf s .count ≤ room
   pub arrived : Arrived words' s
 

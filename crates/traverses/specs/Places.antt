@@ -36,3 +36,7 @@ pub record NextIn (t : Table) (from a b r : ℕ) : Type 0 where
   pub from-on : from ≤ t .nextFrame → from ≤ r
   pub framed : r < t .nextFrame → So (isFrame (t .rows) r)
   pub clear : (i : ℕ) → a ≤ i → i < b → from ≤ frameAt (t .rows) i → frameAt (t .rows) i < r → ⊥
+
+-- The same of the rows between places a and b, whichever comes first.
+abbrev pub NextBetween : Table → ℕ → ℕ → ℕ → ℕ → Type 0
+NextBetween t from a b r = NextIn t from a b r × NextIn t from b a r

@@ -22,15 +22,15 @@ locate-spec =
     (λ c. search needs)
     (λ c. search needs)
     (λ c κs. let c3 = c .before .before .before in
-    told-holds _ _ _ (c3 .test .ensures) _ (c .before .p .given .1))
+    told-holds _ _ _ _ (c3 .test .ensures) _ (c .before .p .given .1))
     (λ c. let c2 = c .before .before in
     let c3 = c2 .before in
     let c4 = c3 .before in
     let w = now (c4 .before .before .args .words) in
-    checked-unsound No (Stands (standOf (rowsOf w))) w (sym (c4 .is-short .ensures) ∙ c3 .if1 .left) (told-fails (rowsOf w) _ _ (c2 .test .ensures) (c .enum-told .given .1)))
+    checked-unsound No (Stands (standOf (rowsOf w))) w (sym (c4 .is-short .ensures) ∙ c3 .if1 .left) (told-fails (rowsOf w) _ _ _ (c2 .test .ensures) (c .enum-told .given .1)))
     (λ c. let c2 = c .before .before in
     let c4 = c2 .before .before in
     let c5 = c4 .before in
     let c6 = c5 .before in
     let w = now (c6 .before .before .args .words) in
-    ap Stands (c .stand-of .ensures) ∙ checked-fine No (Stands (standOf (rowsOf w))) w (sym (c6 .is-short .ensures) ∙ c5 .if1 .left) (told-holds (rowsOf w) _ _ (c4 .test .ensures) _ (c2 .p .given .1) .0)))
+    ap Stands (c .stand-of .ensures) ∙ checked-fine No (Stands (standOf (rowsOf w))) w (sym (c6 .is-short .ensures) ∙ c5 .if1 .left) (told-holds (rowsOf w) _ _ _ (c4 .test .ensures) _ (c2 .p .given .1) .0)))

@@ -13,10 +13,7 @@ pass-start-spec =
     (λ c. search needs)
     (λ c κs. search needs)
     (λ c κs. search needs)
-    (λ c κs. search needs)
     (λ c. let c1 = c .before in
     let c2 = c1 .before in
-    let c3 = c2 .before in
-    let c4 = c3 .before in
-    let c6 = c4 .before .before in
-    passed-start (rowsOf (now (c6 .args .words))) _ _ _ _ (c4 .shown .ensures) (c6 .pre .1) (c1 .parent .ensures) (c3 .frame .ensures) (c2 .document .ensures)))
+    let c4 = c2 .before .before in
+    passed-start (rowsOf (now (c4 .args .words))) _ _ _ (c2 .shown .ensures) (c4 .pre .1) (c1 .frame .ensures) (c .document .ensures)))

@@ -1,7 +1,7 @@
 -- `sound::rows_pass` meets its contract. Assumes nothing.
 use Prim.Native.Nat.{_+_, _-_, _≤_}
 use mathlib.Core.Bool.{true}
-use mathlib.Core.Path.{_≡_, ap, _∙_}
+use mathlib.Core.Path.{_≡_, refl, sym, ap, _∙_}
 use native.Mathlib.Omega.{arith}
 use mir.Syntax.{w64}
 use mir.Val.{Fits}
@@ -11,15 +11,17 @@ use denote.Ref.{now}
 use Rattle.rules.specs.Below.{allBelow}
 use Rattle.rules.specs.Rows.{docAt}
 use Rattle.rules.specs.Words.{rowsOf}
-use Rattle.sound.specs.Quick.{plain}
+use Rattle.laws.proofs.Loops.{all-more}
+use Rattle.sound.specs.Quick.{plain, joined}
 use Rattle.sound.specs.Pass.{Passed}
-use Rattle.sound.proofs.Passes.{first-stops, first-plain, pass-stops, pass-goes, pass-holds, pass-fails}
+use Rattle.sound.proofs.Passes.{row-stops, root-goes, pass-stops, pass-breaks, pass-goes, pass-holds, pass-fails}
+use Rattle.sound.proofs.Verdict.{told-fails, told-holds}
 use Rattle.sound.proofs.rows_pass.Statement.{statement}
 use Rattle.sound.proofs.rows_pass.Tie as tie
 
 abbrev Inv-loop : tie.InvT-loop
 Inv-loop words n top p₀ before₀ i₀ p before i =
-    (1 ≤ i) × (i ≤ n) × Passed (rowsOf words) i p × (allBelow i (plain (rowsOf words) (top .0)) ≡ true) × (before .0 ≡ docAt (rowsOf words) (i - 1))
+    (1 ≤ i) × (i ≤ n) × Passed (rowsOf words) i p × (allBelow i (plain (rowsOf words) (top .0)) ≡ true) × (allBelow i (joined (rowsOf words)) ≡ true) × (before .0 ≡ docAt (rowsOf words) (i - 1))
 
 abbrev μ-loop : tie.MeasureT-loop
 μ-loop words n top p₀ before₀ i₀ p before i = n - i
@@ -32,41 +34,52 @@ rows-pass-spec =
     (λ c κs. search needs)
     (λ c. let c1 = c .before in
     let c3 = c1 .before .before in
-    first-stops (rowsOf (now (c3 .args .words))) _ (omega (arith, c3 .pre .0 .below)) _ (c1 .is-bounded .ensures) (not-true _ (c .if1 .taken)))
+    row-stops (rowsOf (now (c3 .args .words))) _ 0 (omega (arith, c3 .pre .0 .below)) (sym (c1 .is-root .ensures) ∙ not-true _ (c .if1 .taken)))
     (λ c κs. let c1 = c .before in
     let c3 = c1 .before .before in
-    (c3 .pre .0, first-plain (rowsOf (now (c3 .args .words))) _ _ (c1 .is-bounded .ensures) (not-false _ (c .if1 .left)) .1))
+    (c3 .pre .0, root-goes (rowsOf (now (c3 .args .words))) _ _ (c1 .is-root .ensures) (not-false _ (c .if1 .left)) .2))
+    (λ c κs. search needs)
+    (λ c. let c3 = c .before .before .before in
+    let c5 = c3 .before .before in
+    let root = root-goes (rowsOf (now (c5 .args .words))) _ _ (c3 .is-root .ensures) (not-false _ (c .before .before .if1 .left)) in
+    (omega arith, omega (arith, c5 .pre .0 .below), c .before .pass-start .ensures, root .0, root .1, c .document .ensures))
     (λ c κs. search needs)
     (λ c. let c1 = c .before in
-    let c2 = c1 .before in
-    let c3 = c2 .before in
-    let c5 = c3 .before .before in
-    (omega arith, omega (arith, c5 .pre .0 .below), c1 .pass-start .ensures, first-plain (rowsOf (now (c5 .args .words))) _ _ (c3 .is-bounded .ensures) (not-false _ (c2 .if1 .left)) .0, c .document .ensures))
-    (λ c κs. search needs)
+    let c9 = c1 .before .before .before .before .before .before .before .before in
+    pass-stops (rowsOf (now (c9 .args .words))) _ _ _ (omega arith) (c9 .pre .1) _ (c1 .is-plain .ensures) (not-true _ (c .if2 .taken)))
+    (λ c κs. let c1 = c .before in
+    let c3 = c1 .before .before in
+    let c9 = c3 .before .before .before .before .before .before in
+    (record { held = c9 .pre .0 .held; below = omega (arith, c9 .pre .1) }, pass-goes (rowsOf (now (c9 .args .words))) _ _ _ (omega arith) (c9 .pre .1) _ (c1 .is-plain .ensures) _ (c3 .loop .inv .2) (c3 .loop .inv .4) (not-false _ (c .if2 .left)), omega arith))
+    (λ c. search needs)
+    (λ c. search needs)
     (λ c. let c2 = c .before .before in
     let c4 = c2 .before .before in
-    let c10 = c4 .before .before .before .before .before .before in
-    pass-stops (rowsOf (now (c10 .args .words))) _ _ _ _ _ (c4 .loop .inv .2) (omega arith) (c10 .pre .1) (c2 .is-plain .ensures) (not-true _ (c .if2 .taken)))
-    (λ c κs. let c10 = c .before .before .before .before .before .before .before .before .before .before in
-    record { held = c10 .pre .0 .held; below = omega (arith, c10 .pre .1) })
-    (λ c κs. let c1 = c .before in
-    let c3 = c1 .before .before in
-    let c5 = c3 .before .before in
-    let c11 = c5 .before .before .before .before .before .before in
-    (record { held = c11 .pre .0 .held; below = omega (arith, c11 .pre .1) }, pass-goes (rowsOf (now (c11 .args .words))) _ _ _ _ (c5 .loop .inv .2) (c5 .loop .inv .3) (c3 .is-plain .ensures) (not-false _ (c1 .if2 .left)) .0, omega arith))
-    (λ c. let c6 = c .before .before .before .before .before .before in
-    let f : Fits w64 (c6 .loop .i + 1) = record { fits = omega arith } in f)
+    let c12 = c4 .before .before .before .before .before .before .before .before in
+    pass-breaks (rowsOf (now (c12 .args .words))) _ _ _ (omega arith) (c12 .pre .1) _ (c4 .is-plain .ensures) (told-fails _ _ _ _ (c2 .pass-row .ensures) (c .enum-told .given .1)))
+    (λ c κs. let c13 = c .before .before .before .before .before .before .before .before .before .before .before .before .before in
+    record { held = c13 .pre .0 .held; below = omega (arith, c13 .pre .1) })
+    (λ c. let c8 = c .before .before .before .before .before .before .before .before in
+    let f : Fits w64 (c8 .loop .i + 1) = record { fits = omega arith } in f)
     (λ c. search needs)
-    (λ c. let c1 = c .before in
-    let c2 = c1 .before in
-    let c4 = c2 .before .before in
-    let c6 = c4 .before .before in
-    let c12 = c6 .before .before .before .before .before .before in
-    let here : c6 .loop .i ≡ c6 .loop .i + 1 - 1 = omega arith in
-    (omega arith, omega arith, c .pass-row .ensures, pass-goes (rowsOf (now (c12 .args .words))) _ _ _ _ (c6 .loop .inv .2) (c6 .loop .inv .3) (c4 .is-plain .ensures) (not-false _ (c2 .if2 .left)) .1, c1 .document2 .ensures ∙ ap (docAt (rowsOf (now (c12 .args .words)))) here))
     (λ c. let c4 = c .before .before .before .before in
-    let c10 = c4 .before .before .before .before .before .before in
-    pass-holds (rowsOf (now (c10 .args .words))) _ _ _ _ (c4 .loop .inv .2) (c4 .loop .inv .3) (omega arith) (omega arith) (c10 .pre .1) (c .if3 .taken))
-    (λ c. let c4 = c .before .before .before .before in
-    let c10 = c4 .before .before .before .before .before .before in
-    pass-fails (rowsOf (now (c10 .args .words))) _ _ _ _ (c4 .loop .inv .2) (c4 .loop .inv .3) (omega arith) (omega arith) (c10 .pre .1) (c .if3 .left)))
+    let c5 = c4 .before in
+    let c6 = c5 .before in
+    let c8 = c6 .before .before in
+    let c14 = c8 .before .before .before .before .before .before in
+    let inv = c8 .loop .inv in
+    let here : c8 .loop .i ≡ c8 .loop .i + 1 - 1 = omega arith in
+    let told = told-holds (rowsOf (now (c14 .args .words))) _ _ _ (c4 .pass-row .ensures) _ (c .before .before .q .given .1) in (
+      omega arith,
+      omega arith,
+      told .1,
+      all-more _ _ _ (inv .3) (c6 .is-plain .ensures) (not-false _ (c5 .if2 .left)),
+      all-more _ _ true (inv .4) (sym (told .0)) refl,
+      c .document2 .ensures ∙ ap (docAt (rowsOf (now (c14 .args .words)))) here,
+    ))
+    (λ c. let c3 = c .before .before .before in
+    let c9 = c3 .before .before .before .before .before .before in
+    pass-holds (rowsOf (now (c9 .args .words))) _ _ _ _ (c3 .loop .inv .2) (c3 .loop .inv .3) (c3 .loop .inv .4) (omega arith) (omega arith) (c9 .pre .1) (c .if3 .taken))
+    (λ c. let c3 = c .before .before .before in
+    let c9 = c3 .before .before .before .before .before .before in
+    pass-fails (rowsOf (now (c9 .args .words))) _ _ _ _ (c3 .loop .inv .2) (c3 .loop .inv .3) (c3 .loop .inv .4) (omega arith) (omega arith) (c9 .pre .1) (c .if3 .left)))

@@ -15,7 +15,7 @@ sound-spec =
     (λ c. search needs)
     (λ c. let c2 = c .before .before in
     let c4 = c2 .before .before in
-    sym (told-fails (rowsOf (now (c4 .args .words))) _ _ (c2 .test .ensures) (c .enum-told .given .1)))
+    sym (told-fails (rowsOf (now (c4 .args .words))) _ _ _ (c2 .test .ensures) (c .enum-told .given .1)))
     (λ c. let c2 = c .before .before in
     let c4 = c2 .before .before in
-    sym (told-holds (rowsOf (now (c4 .args .words))) _ _ (c2 .test .ensures) _ (c .enum-told2 .given .1) .0)))
+    sym (told-holds (rowsOf (now (c4 .args .words))) _ _ _ (c2 .test .ensures) _ (c .enum-told2 .given .1) .0)))
