@@ -2,10 +2,11 @@
 use Prim.Native.Nat.{ℕ, suc, _+_, _-_, _≤_, _<_, max}
 use mathlib.Core.Bool.{Bool, true, false, _&&_, So}
 use mathlib.Core.List.{List, [], _∷_, reverse, reverse-append}
-use mathlib.Core.Path.{_≡_, refl, sym, ap, ap₂, _∙_}
+use mathlib.Core.Path.{_≡_, refl, sym, ap, ap₂, subst, _∙_}
 use native.Mathlib.Nat.{le-antisymm}
 use native.Mathlib.Numerals.{add-one}
 use native.Mathlib.Omega.{arith}
+use mir.Val.{boolByte}
 use lib.ListN.{length, set}
 use borrow.Author.Tests.{ltb-true, lt-ltb, le-ltb}
 use Rattle.rules.specs.Below.{count, earliest, gather}
@@ -14,7 +15,7 @@ use Rattle.rules.specs.Steps.{isStep, taken, upcoming, position, steps}
 use Rattle.rules.specs.Words.{put}
 use Rattle.rules.specs.Sound.{S6, S7}
 use Rattle.rules.specs.Asks.{takenList, upcomingList}
-use Rattle.laws.proofs.Tests.{test, count-yes, count-no, count-mono, count-most, count-run, count-full, length-gather, gather-flat}
+use Rattle.laws.proofs.Tests.{test, off, count-yes, count-no, count-mono, count-most, count-run, count-full, length-gather, gather-flat}
 use Rattle.laws.proofs.Lists.{taken-is, upcoming-is, count-taken, count-upcoming}
 use Rattle.laws.proofs.Standing.{upto-start, position-start}
 use Rattle.laws.proofs.Writes.{put-none, put-before, put-after}
@@ -67,9 +68,17 @@ module _ (rows : List Row) (s6 : S6 rows) (s7 : S7 rows) where
     unfolding steps
     begun-later l g = omega (arith, count-mono (isStep rows) (length rows) l)
 
-    pub begun-here : i ≤ length rows → i ≤ m + frames → frames ≤ i - m → Begun rows i
+    -- It was not yet so before a step.
+    pub begun-not-yet : (b : Bool) → b ≡ isStep rows i → i - m < frames → (k : ℕ) → k + 1 ≡ i + 1 → So (isStep rows k) → i + 1 - (m + boolByte b) < frames
+    begun-not-yet b g l k q t =
+        let z : k ≡ i = omega arith in
+        let y : b ≡ true = g ∙ subst (λ k. So (isStep rows k)) z t in
+        rw y (omega arith)
+
+    pub begun-here : i ≤ length rows → i ≤ m + frames → ((k : ℕ) → k + 1 ≡ i → So (isStep rows k) → i - m < frames) → frames ≤ i - m → Begun rows i
     unfolding steps
-    begun-here l a b = record { upto = l; steps = count-full (isStep rows) (length rows) (omega arith) }
+    begun-here l a j b =
+        record { upto = l; steps = count-full (isStep rows) (length rows) (omega arith); just = λ k q. off (isStep rows k) (λ t. omega (arith, j k q t)) }
 
   abbrev start : ℕ
   start = earliest (upcoming rows) (length rows)

@@ -1,6 +1,6 @@
 -- A step's document in its list, and the lists while they are filled. Definitions.
-use Prim.Native.Nat.{ℕ, _-_, _≤_, _<_}
-use mathlib.Core.Bool.{Bool, not, _&&_, So, cond}
+use Prim.Native.Nat.{ℕ, _+_, _-_, _≤_, _<_}
+use mathlib.Core.Bool.{Bool, false, not, _&&_, So, cond}
 use mathlib.Core.List.{List, reverse}
 use mathlib.Core.Path.{_≡_}
 use lib.Dec.{ltb}
@@ -19,10 +19,11 @@ takenWith step m position d list = cond (step && ltb m position) (set list (posi
 abbrev pub upcomingWith : Bool → ℕ → ℕ → ℕ → List ℕ → List ℕ
 upcomingWith step m position d list = cond (step && not (ltb m position)) (set list (m - position) d) list
 
--- Every row from place b on is a step.
+-- Every row from place b on is a step, and the row before it is none: there the last frame has begun.
 pub record Begun (rows : List Row) (b : ℕ) : Type 0 where
   pub upto : b ≤ length rows
   pub steps : (k : ℕ) → b ≤ k → k < length rows → So (isStep rows k)
+  pub just : (k : ℕ) → k + 1 ≡ b → isStep rows k ≡ false
 
 -- Of the first i rows the taken steps stand before the place of the position, latest first.
 abbrev pub TakensTo : List Row → ℕ → List ℕ → List ℕ → Type 0

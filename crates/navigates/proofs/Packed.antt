@@ -8,6 +8,8 @@ use native.Mathlib.Numerals.{add-one}
 use native.Mathlib.Omega.{arith}
 use lib.ListN.{length, getD, List·getD-append}
 use lib.Seq.{getD-append-add}
+use lib.Dec.{eqb}
+use borrow.Author.Tests.{eqb-true, eq-eqb, ne-eqb}
 use Rattle.rules.specs.Below.{count, earliest, gather}
 use Rattle.rules.specs.Rows.{Row, none, rowAt}
 use Rattle.rules.specs.Steps.{upcoming, position, steps}
@@ -24,7 +26,7 @@ use Rattle.held.specs.Held.{Within}
 use Rattle.held.proofs.Nexts.{Earliest, earliest-out}
 use Rattle.sound.specs.Check.{Examined}
 use Rattle.sound.proofs.Checks.{examined-sound, examined-held}
-use Rattle.navigates.specs.Packing.{joins, Ends, Moved}
+use Rattle.navigates.specs.Packing.{joins, removalEnd, Ends, Moved}
 use Rattle.navigates.proofs.Judges.{cleared-length}
 use Rattle.navigates.proofs.Stays.{early-stays, joins-is}
 
@@ -97,13 +99,27 @@ over-same old held rs few h =
 
 -- WHERE THE LOOP MAY END
 
-module _ (rows : List Row) (s6 : S6 rows) (s7 : S7 rows) where
-  -- At the earliest upcoming step, where no frame begins after it.
-  pub ends-early : (e : ℕ) → e ≡ earliest (upcoming rows) (length rows) → length rows - steps rows + position rows ≡ e → Ends rows e
-  ends-early e q g = subst (Ends rows) (sym q) (record { after = omega arith; upto = upto-start rows s6 s7; rest = rest-upcoming rows s6 s7 (g ∙ q) })
+module _ (rows : List Row) (n s p u : ℕ) (all : n ≡ length rows) (se : s ≡ steps rows) (pe : p ≡ position rows) (ue : u ≡ earliest (upcoming rows) (length rows)) where
+  pub ends-early : n - s + p ≡ u → u ≡ removalEnd rows
+  unfolding removalEnd
+  ends-early g = rw (eq-eqb (length rows - steps rows + position rows) (earliest (upcoming rows) (length rows)) (omega arith)) ue
 
-  pub ends-last : (e : ℕ) → e ≡ length rows → Ends rows e
-  ends-last e q = record { after = omega (arith, upto-start rows s6 s7); upto = omega arith; rest = λ k a b. absurd (omega arith) }
+  pub ends-last : (n - s + p ≡ u → ⊥) → n ≡ removalEnd rows
+  unfolding removalEnd
+  ends-last g = rw (ne-eqb (length rows - steps rows + position rows) (earliest (upcoming rows) (length rows)) (λ e. g (omega arith))) all
+
+-- From there on nothing stays.
+pub end-ends : (rows : List Row) → S6 rows → S7 rows → (e : ℕ) → e ≡ removalEnd rows → Ends rows e
+unfolding removalEnd
+end-ends rows s6 s7 e q =
+    let start = earliest (upcoming rows) (length rows) in
+    test (eqb (length rows - steps rows + position rows) start)
+    (λ t.
+    let z : e ≡ start = rw t at q in
+    subst (Ends rows) (sym z) (record { after = omega arith; upto = upto-start rows s6 s7; rest = rest-upcoming rows s6 s7 (eqb-true _ _ t) }))
+    (λ f.
+    let z : e ≡ length rows = rw f at q in
+    record { after = omega (arith, upto-start rows s6 s7); upto = omega arith; rest = λ k a b. absurd (omega arith) })
 
 -- THE LOOP
 

@@ -3,15 +3,22 @@ use Prim.Native.Nat.{ℕ, _+_, _-_, _*_, _≤_, _<_}
 use mathlib.Core.Bool.{Bool, not, _&&_, So, cond}
 use mathlib.Core.List.{List, [], _∷_}
 use mathlib.Core.Path.{_≡_}
+use lib.Dec.{eqb}
 use lib.ListN.{length, replicate}
 use Rattle.rules.specs.Below.{someBelow, earliest}
 use Rattle.rules.specs.Rows.{Row, rowAt, frameAt, parentAt, isDoc}
-use Rattle.rules.specs.Steps.{same, upcoming}
+use Rattle.rules.specs.Steps.{same, upcoming, position, steps}
 use Rattle.rules.specs.Words.{put, rowsOf, rowWords}
 
 -- Of the rows before k none is of row i's frame, and one holds its parent.
 unfoldable pub joins : List Row → ℕ → ℕ → Bool
 joins rows k i = not (someBelow k (same (frameAt rows) i)) && someBelow k (isDoc rows (parentAt rows i))
+
+-- Where the removal may end: at the earliest upcoming step, where no frame begins after it, else at the rows' end.
+unfoldable pub removalEnd : List Row → ℕ
+removalEnd rows =
+    let start = earliest (upcoming rows) (length rows) in
+    cond (eqb (length rows - steps rows + position rows) start) start (length rows)
 
 -- From place e on, which is not before the earliest upcoming step, all rows are upcoming steps.
 pub record Ends (rows : List Row) (e : ℕ) : Type 0 where

@@ -24,7 +24,7 @@ ghost use Rattle.held.specs.Held.{Within};
 ghost use Rattle.sound.specs.Check.{Examined, Settles, Judged};
 ghost use Rattle.sound.specs.Survey.{Located};
 ghost use Rattle.navigates.specs.Answers.{navigatedIs, roomRungs};
-ghost use Rattle.navigates.specs.Packing.{joins, Ends, Moved, settled};
+ghost use Rattle.navigates.specs.Packing.{joins, removalEnd, Ends, Moved, settled};
 
 // Whether no row is left after the removal: only where nothing goes and all rows are in use.
 fn is_full(words: &[u32], s: Stand) -> bool
@@ -104,7 +104,7 @@ fn keep_row(words: &mut [u32], at: RowPlace, k: usize) -> usize
 // A place from which on all rows are upcoming steps: that of the earliest, where no frame begins after it, else the rows' end.
 fn removal_end(words: &[u32], s: Stand) -> RowPlace
     requires { ⌜ Located (now words) s ⌝ }
-    ensures { λ r. ⌜ Ends (rowsOf (now (words .entry))) (r .0) ⌝ }
+    ensures { λ r. ⌜ r .0 ≡ removalEnd (rowsOf (now (words .entry))) ⌝ }
 {
     let n = rows::row_count(words);
     if n - s.steps + s.position == s.upcoming.0 {

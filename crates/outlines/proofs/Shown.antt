@@ -1,6 +1,6 @@
 -- The rows before a shown one. Assumes nothing.
 use Prim.Native.Nat.{ℕ, zero, suc, _+_, _≤_, _<_}
-use mathlib.Core.Bool.{Bool, false}
+use mathlib.Core.Bool.{Bool, true, false}
 use mathlib.Core.List.{List, flatMap}
 use mathlib.Core.Path.{_≡_, refl, sym, ap, _∙_, fun-ext}
 use native.Mathlib.Omega.{arith}
@@ -11,7 +11,7 @@ use Rattle.rules.specs.Rows.{Row, Table, noRow, isShown, isFrame}
 use Rattle.rules.specs.Asks.{outlineFrame}
 use Rattle.laws.specs.Outlines.{framesBelow}
 use Rattle.laws.proofs.Tests.{by-lt}
-use Rattle.outlines.specs.Next.{Hidden}
+use Rattle.outlines.specs.Next.{Hidden, NextShown}
 
 -- THE SCAN
 
@@ -27,6 +27,12 @@ module _ (rows : List Row) (s : ℕ) where
         upto = omega arith;
         hidden = λ j m k. by-lt j e (λ z. h .hidden j m z) (λ z. let y : j ≡ e = omega arith in rw y (sym x ∙ f));
       }
+
+  pub shown-here : (e : ℕ) (b : Bool) → Hidden rows s e → b ≡ isShown rows e → b ≡ true → NextShown rows s e
+  shown-here e b h x t = record { before = h; shown = λ l. sym x ∙ t }
+
+  pub shown-nowhere : (e : ℕ) → Hidden rows s e → length rows ≤ e → NextShown rows s e
+  shown-nowhere e h l = record { before = h; shown = λ m. absurd (omega arith) }
 
 -- WHAT IS WRITTEN
 

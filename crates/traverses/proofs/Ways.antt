@@ -175,6 +175,7 @@ stays words δ room r h =
       outcome-is = λ lent l. h lent l ∙ ap (λ z. record { answer = traversedIs (Refused r); lent = words ∷ z ∷ [] }) (put-none lent 0 ∙ ap (put lent 0) (sym e));
       sized = ap length (sym e);
       begins = begins-none (tableOf words) 0 0;
+      foremost = tt;
       fits = omega arith;
       arrived = tt;
     }
@@ -225,6 +226,7 @@ module _ (words : List ℕ) (a b : ℕ) (start : Start words a b) (from to : ℕ
               ∙ rw (k, text, u, changes-are δ e, lands δ e) refl;
           sized = size';
           begins = moved-begins words a b start words' u first (begins-next (tableOf words) a b first h);
+          foremost = h .2;
           fits = l;
           arrived = moved-ready words a b start words' u;
         }

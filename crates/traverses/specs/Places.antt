@@ -1,5 +1,5 @@
 -- A place among the rows stands for the position of the steps before it. Definitions.
-use Prim.Native.Nat.{ℕ, _≤_, _<_}
+use Prim.Native.Nat.{ℕ, _≤_, _<_, min, max}
 use mathlib.Core.Bool.{So}
 use mathlib.Core.List.{List}
 use mathlib.Core.Path.{_≡_}
@@ -8,6 +8,7 @@ use Rattle.rules.specs.Below.{count}
 use Rattle.rules.specs.Rows.{Row, Table, frameAt, isFrame}
 use Rattle.rules.specs.Steps.{isStep, steps}
 use Rattle.laws.proofs.Frames.{shows}
+use Rattle.held.specs.Nexts.{lowestOf}
 
 -- The steps before a place.
 abbrev pub stepsTo : List Row → ℕ → ℕ
@@ -37,6 +38,6 @@ pub record NextIn (t : Table) (from a b r : ℕ) : Type 0 where
   pub framed : r < t .nextFrame → So (isFrame (t .rows) r)
   pub clear : (i : ℕ) → a ≤ i → i < b → from ≤ frameAt (t .rows) i → frameAt (t .rows) i < r → ⊥
 
--- The same of the rows between places a and b, whichever comes first.
+-- r is that of the rows between places a and b, whichever comes first, and so it is of the rows from each up to the other.
 abbrev pub NextBetween : Table → ℕ → ℕ → ℕ → ℕ → Type 0
-NextBetween t from a b r = NextIn t from a b r × NextIn t from b a r
+NextBetween t from a b r = NextIn t from a b r × NextIn t from b a r × (r ≡ lowestOf (t .rows) (min a b) (max a b) from (t .nextFrame))

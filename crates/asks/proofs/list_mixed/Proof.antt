@@ -1,5 +1,6 @@
 -- `asks::list_mixed` meets its contract. Assumes nothing.
 use Prim.Native.Nat.{_+_, _-_, _≤_, _<_}
+use mathlib.Core.Bool.{So}
 use mathlib.Core.Path.{_≡_, ap, _∙_}
 use native.Mathlib.Omega.{arith}
 use lib.ListN.{length}
@@ -16,7 +17,7 @@ use Rattle.held.specs.Under.{Under}
 use Rattle.held.proofs.Scans.{under-more, steps-fit}
 use Rattle.sound.proofs.Checks.{examined-sound, examined-held}
 use Rattle.asks.specs.Listing.{TakensTo, UpcomingsTo}
-use Rattle.asks.proofs.Listing.{lists-none, takens-more, upcomings-more, begun-later, begun-here}
+use Rattle.asks.proofs.Listing.{lists-none, takens-more, upcomings-more, begun-later, begun-not-yet, begun-here}
 use Rattle.asks.proofs.list_mixed.Statement.{statement}
 use Rattle.asks.proofs.list_mixed.Tie as tie
 
@@ -24,6 +25,7 @@ abbrev Inv-loop : tie.InvT-loop
 Inv-loop words s taken₀ upcoming₀ frames m₀ high₀ i₀ taken upcoming m high i =
     (i ≤ length (rowsOf words)) × (m ≡ count (isStep (rowsOf words)) i) × (m ≤ i) × (i ≤ m + frames) × (frames + steps (rowsOf words) ≡ length (rowsOf words))
     × Under (frameAt (rowsOf words)) i (high .0) × TakensTo (rowsOf words) i taken₀ taken × UpcomingsTo (rowsOf words) i upcoming₀ upcoming
+    × ((k : _) → k + 1 ≡ i → So (isStep (rowsOf words) k) → i - m < frames)
 
 abbrev μ-loop : tie.MeasureT-loop
 μ-loop words s taken₀ upcoming₀ frames m₀ high₀ i₀ taken upcoming m high i = length (rowsOf words) - i
@@ -47,7 +49,7 @@ list-mixed-spec =
     (λ c. let c5 = c .before .before .before .before .before in
     let t = examined-sound _ (c5 .pre .0) .table in
     let none = lists-none (rowsOf (now (c5 .args .words))) (t .s6) (t .s7) (now (c5 .args .taken)) (now (c5 .args .upcoming)) in
-    (omega arith, count-none _, omega arith, omega arith, omega (arith, c .before .row-count .ensures, ap (λ s. s .steps) (c5 .pre .1), steps-most (rowsOf (now (c5 .args .words)))), λ k l. absurd (omega arith), none .0, none .1))
+    (omega arith, count-none _, omega arith, omega arith, omega (arith, c .before .row-count .ensures, ap (λ s. s .steps) (c5 .pre .1), steps-most (rowsOf (now (c5 .args .words)))), λ k l. absurd (omega arith), none .0, none .1, λ k q t. absurd (omega arith)))
     (λ c. search needs)
     (λ c κs. let h = examined-held _ (c .before .before .before .before .before .before .before .pre .0) in
     (record { held = h; below = more c }, c .before .loop .inv .5))
@@ -81,10 +83,11 @@ list-mixed-spec =
       under-more _ _ _ _ (inv .5) (omega arith),
       takens-more rows (t .s6) (t .s7) _ _ _ _ _ _ _ l (c10 .is-step .ensures) (inv .1) (c9 .document .ensures) (inv .6) (rw p at (c6 .list-step .ensures .0)),
       upcomings-more rows (t .s6) (t .s7) _ _ _ _ _ _ _ l (c10 .is-step .ensures) (inv .1) (c9 .document .ensures) (inv .7) (rw p at (c6 .list-step .ensures .1)),
+      begun-not-yet rows (t .s6) (t .s7) _ _ _ (inv .1) (inv .2) (inv .4) _ (c10 .is-step .ensures) (omega arith),
     ))
     (λ c. ap length (c .before .loop .inv .6) ∙ length-put _ _ _)
     (λ c. ap length (c .before .loop .inv .7) ∙ length-put _ _ _)
     (λ c. let inv = c .before .loop .inv in
     let c7 = c .before .before .before .before .before .before .before in
     let t = examined-sound _ (c7 .pre .0) .table in
-    (begun-here (rowsOf (now (c7 .args .words))) (t .s6) (t .s7) _ _ _ (inv .1) (inv .2) (inv .4) (inv .0) (inv .3) (omega arith), (inv .6, inv .7))))
+    (begun-here (rowsOf (now (c7 .args .words))) (t .s6) (t .s7) _ _ _ (inv .1) (inv .2) (inv .4) (inv .0) (inv .3) (inv .8) (omega arith), (inv .6, inv .7))))

@@ -7,7 +7,9 @@ use denote.Ref.{now}
 use Rattle.rules.specs.Rows.{none}
 use Rattle.rules.specs.Words.{tableOf}
 use Rattle.laws.proofs.Words.{next-doc-in}
+use Rattle.sound.proofs.Checks.{examined-sound}
 use Rattle.navigates.proofs.Judges.{free}
+use Rattle.navigates.proofs.Packed.{end-ends}
 use Rattle.navigates.proofs.Settled.{place-asks, settle-asks, settled-is}
 use Rattle.navigates.proofs.go_from.Statement.{statement}
 use Rattle.navigates.proofs.go_from.Tie as tie
@@ -22,7 +24,8 @@ go-from-spec =
     (λ c κs. let c9 = c .before .before .before .before .before .before .before .before .before in
     let c10 = c9 .before in
     let w : tableOf (now (c10 .args .words)) .nextDoc ≤ none = omega (arith, c9 .slice-known .given 1, next-doc-in (now (c10 .args .words))) in
-    (c10 .pre .0 .0, w, ap (λ s. s .upcoming .0) (c10 .pre .0 .1), c .before .removal-end .ensures))
+    let t = examined-sound _ (c10 .pre .0 .0) .table in
+    (c10 .pre .0 .0, w, ap (λ s. s .upcoming .0) (c10 .pre .0 .1), end-ends _ (t .s6) (t .s7) _ (c .before .removal-end .ensures)))
     (λ c κs. let c3 = c .before .before .before in
     let c13 = c3 .before .before .before .before .before .before .before .before .before .before in
     let c14 = c13 .before in

@@ -1,12 +1,12 @@
 -- `navigates::removal_end` meets its contract. Assumes nothing.
-use mathlib.Core.Path.{_≡_, ap}
+use mathlib.Core.Path.{ap}
 use native.Mathlib.Omega.{arith}
 use borrow.Author.Needs.{needs}
 use denote.Ref.{now}
 use Rattle.rules.specs.Words.{rowsOf}
 use Rattle.laws.proofs.Central.{position-steps}
 use Rattle.laws.proofs.Standing.{steps-most}
-use Rattle.sound.proofs.Checks.{examined-sound, examined-held}
+use Rattle.sound.proofs.Checks.{examined-held}
 use Rattle.navigates.proofs.Packed.{ends-early, ends-last}
 use Rattle.navigates.proofs.removal_end.Statement.{statement}
 use Rattle.navigates.proofs.removal_end.Tie as tie
@@ -24,9 +24,9 @@ removal-end-spec =
     let r = steps-most (rowsOf (now (c4 .args .words))) in search needs)
     (λ c. let c5 = c .before .before .before .before .before in
     let c7 = c5 .before .before in
-    let t = examined-sound _ (c7 .pre .0) .table in
-    let e : c7 .args .s .upcoming .0 ≡ _ = ap (λ s. s .upcoming .0) (c7 .pre .1) in
-    ends-early (rowsOf (now (c7 .args .words))) (t .s6) (t .s7) _ e (omega (arith, c .before .if1 .taken, c5 .row-count .ensures, ap (λ s. s .steps) (c7 .pre .1), ap (λ s. s .position) (c7 .pre .1))))
-    (λ c. let c6 = c .before .before .before .before .before .before in
-    let t = examined-sound _ (c6 .pre .0) .table in
-    ends-last (rowsOf (now (c6 .args .words))) (t .s6) (t .s7) _ (c .before .before .before .before .row-count .ensures)))
+    let e = c7 .pre .1 in
+    ends-early (rowsOf (now (c7 .args .words))) _ _ _ _ (c5 .row-count .ensures) (ap (λ s. s .steps) e) (ap (λ s. s .position) e) (ap (λ s. s .upcoming .0) e) (c .before .if1 .taken))
+    (λ c. let c4 = c .before .before .before .before in
+    let c6 = c4 .before .before in
+    let e = c6 .pre .1 in
+    ends-last (rowsOf (now (c6 .args .words))) _ _ _ _ (c4 .row-count .ensures) (ap (λ s. s .steps) e) (ap (λ s. s .position) e) (ap (λ s. s .upcoming .0) e) (c .if1 .left)))
