@@ -53,14 +53,14 @@ pub fn refusal_number(refusal: Refusal) -> u32
     }
 }
 
-// The magnitude of an amount, taken in a wider type, so that the least number has one too.
+// The magnitude of an amount, taken in a wider type, so that the least number has one too; it fits 32 bits without a sign.
 pub fn magnitude(delta: i32) -> usize
     ensures { λ r. ⌜ r ≡ natAbs delta ⌝ }
 {
     if delta < 0 {
         let wide = delta as i64;
-        (0 - wide) as usize
+        ((0 - wide) as u32) as usize
     } else {
-        delta as usize
+        (delta as u32) as usize
     }
 }

@@ -3,17 +3,17 @@ use Prim.Native.Nat.{ℕ, suc, _<_}
 use mathlib.Core.Path.{_≡_, refl, sym, ap, _∙_, subst}
 use mathlib.Core.List.{List, [], _∷_, _++_}
 use mathlib.Core.Logic.{_⊎_, inl, inr, ⊎-elim, _↔_, _≢_}
-use mathlib.Core.Bool.{Bool, true, false, So, not, _&&_, and-eq-true-iff}
+use mathlib.Core.Bool.{Bool, So, not, _&&_, and-eq-true-iff}
 use native.Mathlib.Omega.{arith}
 use lib.Dec.{eqb}
 use lib.ListN.{length}
 use borrow.Author.Tests.{ne-eqb, eqb-false, not-true}
 use Rattle.rules.specs.Below.{count}
-use Rattle.rules.specs.Rows.{Row, Table, none, rowAt, docAt, frameAt, parentAt, isShown, isDoc, place, flag, marked}
+use Rattle.rules.specs.Rows.{Row, Table, none, rowAt, docAt, frameAt, parentAt, isShown, isDoc, place, marked}
 use Rattle.rules.specs.Steps.{upcoming, position, visibleAt, visible}
 use Rattle.rules.specs.Moves.{without, cleared, hide, navigated}
 use Rattle.laws.proofs.Tests.{count-in, below-cases}
-use Rattle.laws.proofs.Flags.{flags-length, flags-row}
+use Rattle.laws.proofs.Flags.{flag-test, flags-length, flags-row}
 use Rattle.laws.proofs.Central.{central}
 use Rattle.laws.proofs.Append.{length-snoc, snoc-old, snoc-new}
 use Rattle.laws.proofs.Kept.{kept-row, kept-length}
@@ -130,10 +130,6 @@ module _ (m : ℕ) (doc fr par : ℕ → ℕ) (sh : ℕ → Bool) (doc' fr' par'
               (below-cases (y .2)),
         );
       }
-
-flag-test : (b : Bool) → eqb (flag b) 1 ≡ b
-flag-test true = refl
-flag-test false = refl
 
 -- Navigate from a visible document d, the next document number not used up.
 module _ (t : Table) (s : SoundRows (t .rows) (t .nextDoc) (t .nextFrame)) (unused : t .nextDoc ≢ none) (d : ℕ) (sees : So (visible (t .rows) d)) where

@@ -1,66 +1,57 @@
 -- Scans downwards for the latest row that passes. Assumes nothing.
-use Prim.Native.Nat.{ℕ, zero, suc, max, _+_, _-_, _*_, _/_, _≤_, _<_}
+use Prim.Native.Nat.{ℕ, zero, suc, max, _+_, _-_, _*_, _≤_, _<_}
 use mathlib.Core.Bool.{Bool, true, false, So}
 use mathlib.Core.List.{List}
 use mathlib.Core.Logic.{⊎-elim}
 use mathlib.Core.Path.{_≡_, refl, sym, ap, subst, _∙_}
-use native.Mathlib.Nat.{not-suc-le-zero}
 use native.Mathlib.Numerals.{add-one}
 use native.Mathlib.Omega.{arith}
+use lib.Dec.{eqb}
+use lib.ListN.{length, getD}
 use mir.Syntax.{w64}
 use mir.Val.{Fits, boolByte}
-use borrow.Author.Needs.{needs}
-use borrow.Author.Tests.{not-true, not-false, eqb-true}
+use borrow.Author.Tests.{eqb-true}
 use Rattle.rules.specs.Below.{someBelow, latest}
-use Rattle.rules.specs.Rows.{Row, frameAt, inFrame}
+use Rattle.rules.specs.Rows.{Row, frameAt, isDoc, inFrame}
+use Rattle.rules.specs.Words.{rowsOf}
 use Rattle.rules.specs.Steps.{same, step}
-use Rattle.laws.proofs.Tests.{test, off, below-cases, some-in, some-out, latest-out}
+use Rattle.laws.proofs.Tests.{test, off, below-cases, some-in, some-out, some-same, latest-out}
+use Rattle.laws.proofs.Words.{doc-in, frame-in}
 use Rattle.laws.proofs.Loops.{count-within}
 use Rattle.held.specs.Found.{foundBelow}
 use Rattle.base.specs.declared.RowPlace.{RowPlace}
-use Rattle.held.specs.Held.{RowWord, Within}
+use Rattle.held.specs.Held.{Within, isWord, hasWord}
 use Rattle.held.specs.Under.{Under}
 use Rattle.held.specs.declared.Found.{Found}
 use Rattle.held.specs.declared.Found.the-variants.{At, Nothing}
 
 module _ (p : ℕ → Bool) where
-  -- The code's i and i - 1 are k + 1 and k.
-  down : (P : ℕ → ℕ → Type 0) → ((k : ℕ) → P (suc k) k) → (i : ℕ) → 0 < i → P i (i - 1)
-  down P h zero l = absurd (not-suc-le-zero l)
-  down P h (suc k) l = let e : k ≡ suc k - 1 = omega arith in subst (P (suc k)) e (h k)
-
+  -- The last place passes.
   here : (k : ℕ) → So (p k) → At (record { 0 = k }) ≡ foundBelow p (suc k)
   unfolding foundBelow latest
   here k t = rw (some-in p (suc k) (omega arith) t, t) refl
 
+  -- The last place fails, so that what is found stands before it.
   on : (k : ℕ) → p k ≡ false → foundBelow p (suc k) ≡ foundBelow p k
   unfolding foundBelow someBelow latest
   on k f = test (someBelow k p) (λ t. rw (t, f) refl) (λ t. rw (t, f) refl)
 
-  pub found-here : (n i : ℕ) (b : Bool) → foundBelow p n ≡ foundBelow p i → 0 < i → b ≡ p (i - 1) → b ≡ true → At (record { 0 = i - 1 }) ≡ foundBelow p n
-  found-here n i b h l e t = down (λ i k. So (p k) → At (record { 0 = k }) ≡ foundBelow p i) here i l (sym e ∙ t) ∙ sym h
+  -- Place i, the last before j, passes; no place from j up to n does.
+  pub found-here : (n j i : ℕ) (b : Bool) → foundBelow p n ≡ foundBelow p j → j ≡ suc i → b ≡ p i → b ≡ true → At (record { 0 = i }) ≡ foundBelow p n
+  found-here n j i b h e f t = here i (sym f ∙ t) ∙ sym (h ∙ ap (foundBelow p) e)
 
-  pub found-on : (n i : ℕ) (b : Bool) → foundBelow p n ≡ foundBelow p i → 0 < i → b ≡ p (i - 1) → b ≡ false → foundBelow p n ≡ foundBelow p (i - 1)
-  found-on n i b h l e t = h ∙ down (λ i k. p k ≡ false → foundBelow p i ≡ foundBelow p k) on i l (sym e ∙ t)
+  -- Place i, the last before j, fails too.
+  found-on : (n j i : ℕ) (b : Bool) → foundBelow p n ≡ foundBelow p j → j ≡ suc i → b ≡ p i → b ≡ false → foundBelow p n ≡ foundBelow p i
+  found-on n j i b h e f t = h ∙ ap (foundBelow p) e ∙ on i (sym f ∙ t)
 
   -- The row just before place n has failed by itself.
   pub found-past : (n : ℕ) (r : Found) → p (n - 1) ≡ false → 0 < n → r ≡ foundBelow p (n - 1) → r ≡ foundBelow p n
-  found-past n r f l e = e ∙ sym (found-on n n false refl l (sym f) refl)
+  found-past n r f l e = e ∙ sym (found-on n n (n - 1) false refl (omega arith) (sym f) refl)
 
-  pub found-end : (n i : ℕ) → foundBelow p n ≡ foundBelow p i → i ≤ 0 → Nothing ≡ foundBelow p n
+  -- No place up to n passes.
+  pub found-end : (n j : ℕ) → foundBelow p n ≡ foundBelow p j → j ≡ 0 → Nothing ≡ foundBelow p n
   unfolding foundBelow someBelow
-  found-end n zero h l = sym h
-  found-end n (suc i) h l = absurd (not-suc-le-zero l)
-
-  -- The same by the word where a row's frame stands, which is 4 i + 4 for row i; m is that of the first row past the scanned ones.
-  pub word-here : (n m k : ℕ) (b : Bool) → m ≡ 4 * n → foundBelow p (m / 4) ≡ foundBelow p (k / 4) → RowWord k → b ≡ p (k / 4 - 1) → b ≡ true → At (record { 0 = k / 4 - 1 }) ≡ foundBelow p n
-  word-here n m k b e h w f t = let d : m / 4 ≡ n = omega arith in found-here (m / 4) (k / 4) b h (omega arith) f t ∙ ap (foundBelow p) d
-
-  pub word-on : (m k : ℕ) (b : Bool) → foundBelow p (m / 4) ≡ foundBelow p (k / 4) → RowWord k → b ≡ p (k / 4 - 1) → b ≡ false → foundBelow p (m / 4) ≡ foundBelow p ((k - 4) / 4)
-  word-on m k b h w f t = let d : k / 4 - 1 ≡ (k - 4) / 4 = omega arith in found-on (m / 4) (k / 4) b h (omega arith) f t ∙ ap (foundBelow p) d
-
-  pub word-end : (n m k : ℕ) → m ≡ 4 * n → foundBelow p (m / 4) ≡ foundBelow p (k / 4) → k ≤ 0 → Nothing ≡ foundBelow p n
-  word-end n m k e h l = let d : m / 4 ≡ n = omega arith in found-end (m / 4) (k / 4) h (omega arith) ∙ ap (foundBelow p) d
+  found-end n j h e = sym (h ∙ ap (foundBelow p) e)
 
   -- What an answer says.
   pub found-at : (n : ℕ) (q : RowPlace) → foundBelow p n ≡ At q → So (someBelow n p) × (latest p n ≡ q .0)
@@ -82,7 +73,46 @@ module _ (p : ℕ → Bool) where
   pub none-found : (n : ℕ) (r : Found) → r ≡ foundBelow p n → r ≡ Nothing → false ≡ someBelow n p
   none-found n r e f = sym (found-nothing n (sym e ∙ f))
 
-pub ruleset scans = (needs, not-true, not-false, found-here, found-on, found-end, word-here, word-on, word-end)
+-- Tests that agree on the places before n have the same latest one.
+latest-same : (p q : ℕ → Bool) (n : ℕ) → ((k : ℕ) → k < n → p k ≡ q k) → latest p n ≡ latest q n
+unfolding latest
+latest-same p q zero h = refl
+latest-same p q (suc n) h = rw (h n (omega arith), latest-same p q n (λ k l. h k (omega arith)))
+
+-- Tests that agree on the places before n find the same.
+found-same : (p q : ℕ → Bool) (n : ℕ) → ((k : ℕ) → k < n → p k ≡ q k) → foundBelow p n ≡ foundBelow q n
+unfolding foundBelow
+found-same p q n h = rw (some-same p q n h, latest-same p q n h)
+
+-- THE ROWS' WORDS
+
+module _ (words : List ℕ) (back v : ℕ) where
+  -- The word tried, k, is that of row i, the last before place j; it has the value.
+  pub word-here : (n j i k : ℕ) (b : Bool) →
+      foundBelow (hasWord words back v) n ≡ foundBelow (hasWord words back v) j → b ≡ isWord words v k → b ≡ true → j ≡ suc i → k ≡ 4 * i + 4 - back →
+      At (record { 0 = i }) ≡ foundBelow (hasWord words back v) n
+  unfolding hasWord
+  word-here n j i k b h f t e w = found-here _ n j i b h e (f ∙ ap (isWord words v) w) t
+
+  -- That word has another value.
+  pub word-on : (n j i k : ℕ) (b : Bool) →
+      foundBelow (hasWord words back v) n ≡ foundBelow (hasWord words back v) j → b ≡ isWord words v k → b ≡ false → j ≡ suc i → k ≡ 4 * i + 4 - back →
+      foundBelow (hasWord words back v) n ≡ foundBelow (hasWord words back v) i
+  unfolding hasWord
+  word-on n j i k b h f t e w = found-on _ n j i b h e (f ∙ ap (isWord words v) w) t
+
+module _ (words : List ℕ) where
+  -- The word just before the frame is the document.
+  pub found-document : (n d : ℕ) (r : Found) → n ≤ length (rowsOf words) → r ≡ foundBelow (hasWord words 1 d) n → r ≡ foundBelow (isDoc (rowsOf words) d) n
+  unfolding hasWord
+  found-document n d r l h =
+      h ∙ found-same _ _ n (λ i m. let e : 4 * i + 4 - 1 ≡ 3 + 4 * i = omega arith in ap (λ x. eqb x d) (ap (λ k. getD words k 0) e ∙ doc-in words i (omega arith)))
+
+  -- The word no words before the frame is the frame itself.
+  pub found-frame : (n f : ℕ) (r : Found) → n ≤ length (rowsOf words) → r ≡ foundBelow (hasWord words 0 f) n → r ≡ foundBelow (inFrame (rowsOf words) f) n
+  unfolding hasWord
+  found-frame n f r l h =
+      h ∙ found-same _ _ n (λ i m. let e : 4 * i + 4 - 0 ≡ 4 + 4 * i = omega arith in ap (λ x. eqb x f) (ap (λ k. getD words k 0) e ∙ frame-in words i (omega arith)))
 
 -- A BOUND ON FRAME NUMBERS
 

@@ -12,7 +12,8 @@ use Rattle.rules.specs.Below.{tab}
 use Rattle.rules.specs.Rows.{Row, noRow, rowAt, docAt, frameAt, parentAt, shownAt, isShown, flag, marked, withFlags}
 use Rattle.laws.proofs.Tests.{test, by-lt, length-tab, tab-at, tab-is, tab-same}
 
-flag-test : (b : Bool) → eqb (flag b) 1 ≡ b
+-- A flag is read as it was set.
+pub flag-test : (b : Bool) → eqb (flag b) 1 ≡ b
 flag-test true = refl
 flag-test false = refl
 

@@ -34,9 +34,6 @@ module _ (p : ℕ → Bool) where
   unfolding allBelow
   all-flag i a b e f = rw (e, f, add-one i) refl
 
-  pub all-told : (n i : ℕ) (a : Bool) → i ≤ n → n ≤ i → a ≡ allBelow i p → a ≡ allBelow n p
-  all-told n i a l m e = e ∙ ap (λ k. allBelow k p) (le-antisymm l m)
-
   -- SOME
   pub some-none : someBelow 0 p ≡ false
   unfolding someBelow

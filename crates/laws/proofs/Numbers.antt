@@ -36,7 +36,7 @@ number-read (x ∷ xs) (suc i) l = read-past (number x) (flatMap number xs) (4 *
 
 -- THE NUMBERS OF A TABLE
 
-unfoldable entry : List Row → ℕ → List ℕ
+unfoldable pub entry : List Row → ℕ → List ℕ
 entry rows f = f ∷ parentOf rows f ∷ length (docsOf rows f) ∷ shownPlace rows f ∷ []
 
 entries : (rows : List Row) (fs : List ℕ) → flatMap (contents rows) fs ≡ flatMap number (flatMap (entry rows) fs)
@@ -49,11 +49,11 @@ unfolding flatMap body
 bodies rows [] = refl
 bodies rows (f ∷ fs) = ap (λ l. flatMap number (docsOf rows f) ++ l) (bodies rows fs) ∙ sym (flat-append number (docsOf rows f) (flatMap (docsOf rows) fs))
 
-unfoldable numbersOf : Table → List ℕ
+unfoldable pub numbersOf : Table → List ℕ
 numbersOf t =
     length (frames t) ∷ t .nextDoc ∷ t .nextFrame ∷ (flatMap (entry (t .rows)) (frames t) ++ flatMap (docsOf (t .rows)) (frames t))
 
-saved-is : (t : Table) → saved t ≡ flatMap number (numbersOf t)
+pub saved-is : (t : Table) → saved t ≡ flatMap number (numbersOf t)
 unfolding saved numbersOf flatMap
 saved-is t =
     rw (entries (t .rows) (frames t), bodies (t .rows) (frames t), flat-append number)

@@ -83,7 +83,7 @@ module _ {A B : Type 0} (g : A → List B) where
   flat-append [] ys = refl
   flat-append (x ∷ xs) ys = rw (flat-append xs ys, append-assoc)
 
-  flat-one : (x : A) → flatMap g (x ∷ []) ≡ g x
+  pub flat-one : (x : A) → flatMap g (x ∷ []) ≡ g x
   unfolding flatMap
   flat-one x = append-nil (g x)
 

@@ -22,7 +22,7 @@ use Rattle.laws.proofs.Numbers.{frameNo, documents, length-docs, length
 use Rattle.laws.proofs.Told.{length-told, told-at, told-found, in-order}
 
 -- A frame has so many documents.
-length-docsOf : (rows : List Row) (f : ℕ) → length (docsOf rows f) ≡ count (inFrame rows f) (length rows)
+pub length-docsOf : (rows : List Row) (f : ℕ) → length (docsOf rows f) ≡ count (inFrame rows f) (length rows)
 unfolding docsOf
 length-docsOf rows f = length-gather (inFrame rows f) (docAt rows) (length rows)
 
@@ -67,7 +67,7 @@ module _ {room : ℕ} (t : Table) (sound : SoundTable room t) where
   saved-length = length-saved t ∙ ap (λ n. 12 + 16 * length (frames t) + 4 * n) all-documents
 
   -- The j-th frame is one.
-  frame-is : (j : ℕ) → j < length (frames t) → (frameNo t j < t .nextFrame) × So (isFrame (t .rows) (frameNo t j)) × (count (isFrame (t .rows)) (frameNo t j) ≡ j)
+  pub frame-is : (j : ℕ) → j < length (frames t) → (frameNo t j < t .nextFrame) × So (isFrame (t .rows) (frameNo t j)) × (count (isFrame (t .rows)) (frameNo t j) ≡ j)
   frame-is j l =
       let r = gather-from (isFrame (t .rows)) (λ k. k) (t .nextFrame) j 0 l in
       rw (r .4) (r .1, r .2, r .3)
@@ -97,7 +97,7 @@ module _ {room : ℕ} (t : Table) (sound : SoundTable room t) where
   frames-few = omega (arith, sum-least (documents t) (length (frames t)) some-documents, all-documents)
 
   -- What the bytes tell: how many documents the first j frames have, and all.
-  told-sum : (j : ℕ) → j ≤ length (frames t) → sum (documentsIn (saved t)) j ≡ sum (documents t) j
+  pub told-sum : (j : ℕ) → j ≤ length (frames t) → sum (documentsIn (saved t)) j ≡ sum (documents t) j
   told-sum j l = sum-same (documentsIn (saved t)) (documents t) j (λ k m. read-documents t k (omega arith))
 
   pub told-total : sum (documentsIn (saved t)) (numberAt (saved t) 0) ≡ length (t .rows)
@@ -183,7 +183,7 @@ module _ {room : ℕ} (t : Table) (sound : SoundTable room t) where
         (ap (λ n. flag (eqb doc-place n)) (read-shown t frame-place frame-below ∙ ap (shownPlace (t .rows)) frame-at) ∙ shown-is)
 
     -- It is told.
-    told-to : (p : ℕ) × (p < length (toldRows (saved t))) × (rowAt (toldRows (saved t)) p ≡ rowAt (t .rows) i)
+    pub told-to : (p : ℕ) × (p < length (toldRows (saved t))) × (rowAt (toldRows (saved t)) p ≡ rowAt (t .rows) i)
     told-to =
         let a : frame-place < numberAt (saved t) 0 = omega (arith, read-count t, frame-below) in
         let b : doc-place < documentsIn (saved t) frame-place = omega (arith, read-documents t frame-place frame-below, doc-below) in (

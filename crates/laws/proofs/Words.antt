@@ -51,13 +51,6 @@ module _ (words : List ℕ) where
   pub shown-in : (i : ℕ) → i < length (rowsOf words) → getD words (6 + 4 * i) 0 ≡ shownAt (rowsOf words) i
   shown-in i l = ap (λ r. r .shown) (row-in i l)
 
-  -- The same by the word where the frame stands.
-  pub doc-word : (k : ℕ) → 0 < k → k % 4 ≡ 0 → k / 4 - 1 < length (rowsOf words) → getD words (k - 1) 0 ≡ docAt (rowsOf words) (k / 4 - 1)
-  doc-word k p e l = let d : k - 1 ≡ 3 + 4 * (k / 4 - 1) = omega arith in ap (λ j. getD words j 0) d ∙ doc-in (k / 4 - 1) l
-
-  pub frame-word : (k : ℕ) → 0 < k → k % 4 ≡ 0 → k / 4 - 1 < length (rowsOf words) → getD words k 0 ≡ frameAt (rowsOf words) (k / 4 - 1)
-  frame-word k p e l = let d : k ≡ 4 + 4 * (k / 4 - 1) = omega arith in ap (λ j. getD words j 0) d ∙ frame-in (k / 4 - 1) l
-
 pub ruleset reading = (needs, count-in-words, next-doc-in, next-frame-in, doc-in, frame-in, parent-in, shown-in)
 
 pub length-words : (rows : List Row) → length (flatMap rowWords rows) ≡ 4 * length rows

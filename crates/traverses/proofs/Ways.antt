@@ -12,7 +12,7 @@ use borrow.Author.Tests.{lt-ltb, le-ltb, ltb-false}
 use Rattle.base.specs.declared.Refusal.{Refusal}
 use Rattle.base.specs.declared.Refusal.the-variants.{ShortBuffer, Beyond}
 use Rattle.rules.specs.Below.{someBelow, count, rising}
-use Rattle.rules.specs.Rows.{Row, Table, docAt, isFrame}
+use Rattle.rules.specs.Rows.{Row, Table, docAt, frameAt, isFrame}
 use Rattle.rules.specs.Steps.{step, position, steps}
 use Rattle.rules.specs.Moves.{walked, frames, shownDoc, changeRow, changes}
 use Rattle.rules.specs.Words.{put, tableOf, rowsOf, written}
@@ -35,11 +35,11 @@ use Rattle.traverses.specs.declared.Goal.the-variants.{To, Outside}
 use Rattle.traverses.specs.declared.Trip.{Trip}
 use Rattle.traverses.specs.declared.Shifted.{Shifted}
 use Rattle.traverses.specs.declared.Shifted.the-variants.{Went, Stayed}
-use Rattle.traverses.specs.Answers.{traversedIs, tripOf, tripText, TripBegins, Arrived, Shifts, Travels}
+use Rattle.traverses.specs.Answers.{traversedIs, tripText, Arrived, Foremost, Shifts, Travels}
 use Rattle.traverses.specs.Goals.{goalOf}
 use Rattle.traverses.specs.Places.{stepsTo, PlaceOf, NextBetween}
-use Rattle.traverses.specs.Texts.{docFrom, changeText, textBelow, placesText, Begins, movedTo, Ready, Start}
-use Rattle.traverses.proofs.Places.{stand-position, stand-steps}
+use Rattle.traverses.specs.Texts.{docFrom, changeText, textBelow, placesText, movedTo, Ready, Start}
+use Rattle.traverses.proofs.Places.{stand-position, stand-steps, next-same}
 use Rattle.traverses.proofs.Texts.{begins-next, begins-none, no-text}
 
 -- READY
@@ -70,12 +70,9 @@ unfolding flatMap
 flat-lengths g h [] e = refl
 flat-lengths g h (x ∷ xs) e = omega (arith, length-append (g x) (flatMap g xs), length-append (h x) (flatMap h xs), e x, flat-lengths g h xs e)
 
--- From place a, whose flags the rows have, to place b: those of the frames numbered below g, and all.
-abbrev changesBelow : Table → ℕ → ℕ → List ℕ
-changesBelow t b g = flatMap (changeRow (t .rows) (movedTo t b .rows)) (rising (isFrame (t .rows)) g)
-
-abbrev pub changesTo : Table → ℕ → List ℕ
-changesTo t b = changesBelow t b (t .nextFrame)
+-- Those to place b from the place whose flags the rows have.
+abbrev changesTo : Table → ℕ → List ℕ
+changesTo t b = flatMap (changeRow (t .rows) (movedTo t b .rows)) (rising (isFrame (t .rows)) (t .nextFrame))
 
 module _ (rows : List Row) (a b : ℕ) (stand : flagsAt (stepsTo rows a) rows ≡ rows) where
   abbrev moved : List Row
@@ -106,15 +103,15 @@ module _ (rows : List Row) (a b : ℕ) (stand : flagsAt (stepsTo rows a) rows �
       subst₂ (λ n fr. rising (λ f. someBelow n (λ i. eqb (fr i) f)) top ≡ rising (isFrame rows) top) (sym (at-length (stepsTo rows b) rows)) (sym (at-frame (stepsTo rows b) rows)) refl
 
 module _ (t : Table) (a b : ℕ) (stand : flagsAt (stepsTo (t .rows) a) (t .rows) ≡ t .rows) where
-  text-moved : (g : ℕ) → textBelow (movedTo t b .rows) a b g ≡ changesBelow t b g
+  text-moved : placesText (movedTo t b) a b ≡ changesTo t b
   unfolding textBelow
-  text-moved g =
-      flat-same _ _ (rising (isFrame (movedTo t b .rows)) g) (text-after (t .rows) a b stand)
-      ∙ ap (flatMap (changeRow (t .rows) (movedTo t b .rows))) (frames-moved (t .rows) a b stand g)
+  text-moved =
+      flat-same _ _ (rising (isFrame (movedTo t b .rows)) (t .nextFrame)) (text-after (t .rows) a b stand)
+      ∙ ap (flatMap (changeRow (t .rows) (movedTo t b .rows))) (frames-moved (t .rows) a b stand (t .nextFrame))
 
-  text-counted : (g : ℕ) → length (textBelow (t .rows) a b g) ≡ length (changesBelow t b g)
+  text-counted : length (placesText t a b) ≡ length (changesTo t b)
   unfolding textBelow
-  text-counted g = flat-lengths _ _ (rising (isFrame (t .rows)) g) (text-before (t .rows) a b stand)
+  text-counted = flat-lengths _ _ (rising (isFrame (t .rows)) (t .nextFrame)) (text-before (t .rows) a b stand)
 
 -- After the flags have moved.
 module _ (old : List ℕ) (a b : ℕ) (start : Start old a b) (new : List ℕ) (e : new ≡ written old (movedTo (tableOf old) b)) where
@@ -125,6 +122,10 @@ module _ (old : List ℕ) (a b : ℕ) (start : Start old a b) (new : List ℕ) (
       let h = r .held in
       ap tableOf e ∙ table-written old (movedTo (tableOf old) b) (omega arith) (omega (arith, at-length (stepsTo (rowsOf old) b) (rowsOf old)))
 
+  -- As many rows.
+  moved-count : length (rowsOf new) ≡ length (rowsOf old)
+  moved-count = ap (λ t. length (t .rows)) moved-table ∙ at-length (stepsTo (rowsOf old) b) (rowsOf old)
+
   moved-length : length new ≡ length old
   moved-length = ap length e ∙ length-written old _
 
@@ -132,9 +133,8 @@ module _ (old : List ℕ) (a b : ℕ) (start : Start old a b) (new : List ℕ) (
   moved-ready =
       let r = start .ready in
       let rows = rowsOf old in
-      let q = stepsTo rows b in
-      let n : length (rowsOf new) ≡ length rows = ap (λ t. length (t .rows)) moved-table ∙ at-length q rows in
-      let d : docAt (rowsOf new) ≡ docAt rows = ap (λ t. docAt (t .rows)) moved-table ∙ at-doc q rows in
+      let n = moved-count in
+      let d : docAt (rowsOf new) ≡ docAt rows = ap (λ t. docAt (t .rows)) moved-table ∙ at-doc (stepsTo rows b) rows in
       let s = moved-length in
       let u = r .held in
       let v = r .long in
@@ -148,21 +148,14 @@ module _ (old : List ℕ) (a b : ℕ) (start : Start old a b) (new : List ℕ) (
         second = omega arith;
       }
 
-  pub moved-text : placesText (tableOf new) a b ≡ changesTo (tableOf old) b
-  moved-text = ap (λ t. placesText t a b) moved-table ∙ text-moved (tableOf old) a b (start .flags) (tableOf old .nextFrame)
+  -- The same first frame between the places.
+  moved-next : (f : ℕ) → NextBetween (tableOf old) 0 a b f → NextBetween (tableOf new) 0 a b f
+  moved-next f =
+      let frames = ap (λ t. frameAt (t .rows)) moved-table ∙ at-frame (stepsTo (rowsOf old) b) (rowsOf old) in
+      next-same (tableOf old) (tableOf new) (sym moved-count) (sym frames) (sym (ap (λ t. t .nextFrame) moved-table)) 0 a b f
 
-  pub moved-begins : (f : ℕ) → Begins (tableOf old) a b f → Begins (tableOf new) a b f
-  moved-begins f h =
-      let w = h .within in
-      let e = ap (λ t. textBelow (t .rows) a b f) moved-table ∙ text-moved (tableOf old) a b (start .flags) f in
-      record {
-        within = omega (arith, ap (λ t. t .nextFrame) moved-table);
-        none-below = empty _ (ap length e ∙ sym (text-counted (tableOf old) a b (start .flags) f) ∙ ap length (h .none-below));
-      }
-    where
-      empty : (xs : List ℕ) → length xs ≡ 0 → xs ≡ []
-      empty [] z = refl
-      empty (x ∷ xs) z = absurd (omega arith)
+  pub moved-text : placesText (tableOf new) a b ≡ changesTo (tableOf old) b
+  moved-text = ap (λ t. placesText t a b) moved-table ∙ text-moved (tableOf old) a b (start .flags)
 
 -- THE ANSWER
 
@@ -199,7 +192,7 @@ module _ (words : List ℕ) (a b : ℕ) (start : Start words a b) (from to : ℕ
 
   module _ (count : ℕ) (size : 4 * count ≡ length (placesText (tableOf words) a b)) (room : ℕ) where
     counts : (δ : ℤ) → pos from +ℤ δ ≡ pos to → 4 * count ≡ length (changes (tableOf words) δ)
-    counts δ e = size ∙ text-counted (tableOf words) a b (start .flags) (tableOf words .nextFrame) ∙ ap length (sym (changes-are δ e))
+    counts δ e = size ∙ text-counted (tableOf words) a b (start .flags) ∙ ap length (sym (changes-are δ e))
 
     pub travel-short : room < count → Travels words room from to (Stayed ShortBuffer) words
     unfolding refusals Given
@@ -217,7 +210,8 @@ module _ (words : List ℕ) (a b : ℕ) (start : Start words a b) (from to : ℕ
         let x = start .examined in
         let n = counts δ e in
         let text = moved-text words a b start words' u in
-        let size' = size ∙ text-counted (tableOf words) a b (start .flags) (tableOf words .nextFrame) ∙ ap length (sym text) in
+        let next = moved-next words a b start words' u first h in
+        let size' = size ∙ text-counted (tableOf words) a b (start .flags) ∙ ap length (sym text) in
         record {
           outcome-is = λ lent r.
               let m : length (changes (tableOf words) δ) ≤ length lent = omega arith in
@@ -225,8 +219,8 @@ module _ (words : List ℕ) (a b : ℕ) (start : Start words a b) (from to : ℕ
               outcome-accepted (Call.Traverse words δ lent) (x .long, (rw (x .passes) refl, (within δ e, (le-ltb _ _ m, tt))))
               ∙ rw (k, text, u, changes-are δ e, lands δ e) refl;
           sized = size';
-          begins = moved-begins words a b start words' u first (begins-next (tableOf words) a b first h);
-          foremost = h .2;
+          begins = begins-next (tableOf words') a b first next;
+          foremost = next;
           fits = l;
           arrived = moved-ready words a b start words' u;
         }
@@ -263,8 +257,8 @@ unfolding refusals
 survey-way words room δ k r e f = stays words δ room r (λ lent z. outcome-refused (Call.Traverse words δ lent) _ (survey-given words _ k r e f))
 
 -- Whoever writes the change rows of a shift.
-pub went-ready : (words words' : List ℕ) (δ : ℤ) (room : ℕ) (s : Shifted) → Shifts words δ room s words' → (t : Trip) → s ≡ Went t → Ready words' (t .before .0) (t .after .0) × TripBegins words' t
-went-ready words words' δ room s h t e = (subst (Arrived words') e (h .arrived), subst (λ z. TripBegins words' (tripOf z)) e (h .begins))
+pub went-ready : (words words' : List ℕ) (δ : ℤ) (room : ℕ) (s : Shifted) → Shifts words δ room s words' → (t : Trip) → s ≡ Went t → Ready words' (t .before .0) (t .after .0) × NextBetween (tableOf words') 0 (t .before .0) (t .after .0) (t .first .0)
+went-ready words words' δ room s h t e = (subst (Arrived words') e (h .arrived), subst (Foremost words') e (h .foremost))
 
 module _ (words words' : List ℕ) (δ : ℤ) (s : Shifted) (lent : List ℕ) where
   pub went-way : (lent' : List ℕ) → Shifts words δ (length lent / 4) s words' → (t : Trip) → s ≡ Went t → lent' ≡ put lent 0 (tripText words' t) →

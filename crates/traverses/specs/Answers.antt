@@ -1,18 +1,18 @@
 -- What Traverse answers, in the rules' terms, and what it leaves. Definitions.
-use Prim.Native.Nat.{ℕ, _*_, _/_, _≤_, min, max}
+use Prim.Native.Nat.{ℕ, _*_, _/_, _≤_}
 use mathlib.Core.List.{List, [], _∷_}
 use mathlib.Core.Path.{_≡_}
 use lib.IntN.{ℤ, pos, _+ℤ_}
 use lib.ListN.{length}
 use Rattle.base.specs.Numbers.{numberOf}
-use Rattle.rules.specs.Words.{put, tableOf, rowsOf}
+use Rattle.rules.specs.Words.{put, tableOf}
 use Rattle.rules.specs.Calls.{Call, Answer, outcome}
-use Rattle.held.specs.Nexts.{lowestOf}
 use Rattle.traverses.specs.declared.Traversed.{Traversed}
 use Rattle.traverses.specs.declared.Traversed.the-variants.{Changes, Refused}
 use Rattle.traverses.specs.declared.Trip.{Trip}
 use Rattle.traverses.specs.declared.Shifted.{Shifted}
 use Rattle.traverses.specs.declared.Shifted.the-variants.{Went, Stayed}
+use Rattle.traverses.specs.Places.{NextBetween}
 use Rattle.traverses.specs.Texts.{placesText, Begins, Ready}
 
 -- The number of change rows, or the refusal's number.
@@ -44,7 +44,7 @@ Arrived words (Stayed r) = Unit {0}
 
 -- Its first frame is the lowest of the rows between the places.
 abbrev pub Foremost : List ℕ → Shifted → Type 0
-Foremost words (Went t) = t .first .0 ≡ lowestOf (rowsOf words) (min (t .before .0) (t .after .0)) (max (t .before .0) (t .after .0)) 0 (tableOf words .nextFrame)
+Foremost words (Went t) = NextBetween (tableOf words) 0 (t .before .0) (t .after .0) (t .first .0)
 Foremost words (Stayed r) = Unit {0}
 
 -- The record has become words', and with room lent for so many change rows the outcome is this: the answer, words', and the trip's change rows.
@@ -53,7 +53,7 @@ pub record Shifts (words : List ℕ) (δ : ℤ) (room : ℕ) (s : Shifted) (word
       outcome (Call.Traverse words δ lent) ≡ record { answer = traversedIs (answerOf s); lent = words' ∷ put lent 0 (tripText words' (tripOf s)) ∷ [] }
   pub sized : 4 * tripOf s .count ≡ length (tripText words' (tripOf s))
   pub begins : TripBegins words' (tripOf s)
-  pub foremost : Foremost words s
+  pub foremost : Foremost words' s
   pub fits : tripOf s .count ≤ room
   pub arrived : Arrived words' s
 
