@@ -19,7 +19,7 @@ use Rattle.sound.specs.Check.{checkOf, Examined}
 use Rattle.sound.specs.declared.Check.{Check}
 use Rattle.sound.specs.declared.Check.the-variants.{No}
 use Rattle.laws.proofs.Lists.{taken-length, upcoming-length}
-use Rattle.rows.specs.Holds.{heldRows}
+use Rattle.rows.specs.Readable.{readableRows}
 use Rattle.asks.specs.Answers.{sightIs, sightOf, SightIs}
 use Rattle.asks.specs.declared.Sight.{Sight}
 use Rattle.asks.specs.declared.Sight.the-variants.{Visible, Hidden, Refused}
@@ -28,7 +28,7 @@ use Rattle.sound.specs.Survey.{surveyOf}
 use Rattle.sound.specs.declared.Stand.{Stand}
 use Rattle.sound.specs.declared.Survey.{Survey}
 use Rattle.sound.specs.declared.Survey.the-variants.{Stands, No as Survey·No}
-use Rattle.sound.proofs.Checks.{check-given, survey-given, survey-stands, examined-sound, examined-held}
+use Rattle.sound.proofs.Checks.{check-given, survey-given, survey-stands, examined-sound, examined-fits}
 
 pub visible-refused : (words : List ℕ) (d : ℕ) (k : Check) (r : Refusal) → k ≡ checkOf words → k ≡ No r → outcome (Call.Visible words d) ≡ record { answer = Answer.refuses (numberOf r); lent = [] }
 unfolding refusals
@@ -50,8 +50,8 @@ module _ (words : List ℕ) (e : Examined words) where
   by-sight d Hidden i = rw (e .long, e .passes, i .0, i .1) refl
   by-sight d (Refused r) i = rw (e .long, e .passes, i .0, i .1) refl
 
-  pub visible-given : (d : ℕ) (s : Sight) → s ≡ sightOf (heldRows words) d → outcome (Call.Visible words d) ≡ record { answer = sightIs s; lent = [] }
-  visible-given d s h = by-sight d s (seen-is words d (examined-held words e) s h)
+  pub visible-given : (d : ℕ) (s : Sight) → s ≡ sightOf (readableRows words) d → outcome (Call.Visible words d) ≡ record { answer = sightIs s; lent = [] }
+  visible-given d s h = by-sight d s (seen-is words d (examined-fits words e) s h)
 
 -- STRETCH
 

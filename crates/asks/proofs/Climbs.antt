@@ -14,13 +14,13 @@ use Rattle.rules.specs.Steps.{visibleAsk, visibleAt, visible}
 use Rattle.rules.specs.Words.{capacity, rowsOf}
 use Rattle.laws.proofs.Tests.{test, clash, some-in, some-out, greatest, latest-is}
 use Rattle.laws.proofs.Climb.{climb-none, climb-found}
-use Rattle.held.specs.Found.{foundBelow}
-use Rattle.held.specs.declared.Found.{Found}
-use Rattle.held.specs.declared.Found.the-variants.{At, Nothing}
-use Rattle.held.specs.Held.{Within}
-use Rattle.held.proofs.Scans.{found-at, found-lower, found-nothing}
-use Rattle.rows.specs.Holds.{heldRows}
-use Rattle.rows.proofs.Holds.{held-rows, held-within}
+use Rattle.reads.specs.Found.{foundBelow}
+use Rattle.reads.specs.declared.Found.{Found}
+use Rattle.reads.specs.declared.Found.the-variants.{At, Nothing}
+use Rattle.reads.specs.Within.{Within}
+use Rattle.reads.proofs.Scans.{found-at, found-lower, found-nothing}
+use Rattle.rows.specs.Readable.{readableRows}
+use Rattle.rows.proofs.Readable.{readable-rows, readable-within}
 use Rattle.asks.specs.Answers.{sightOf, SightIs}
 use Rattle.asks.specs.declared.Sight.{Sight}
 use Rattle.asks.specs.declared.Sight.the-variants.{Visible, Hidden, Refused}
@@ -59,48 +59,48 @@ module _ (rows : List Row) (k : ℕ) (s : Bool) (shown : s ≡ isShown rows k) w
     pub lost-ends : (f : Found) → (up ≡ none → ⊥) → f ≡ foundBelow (isDoc rows up) k → f ≡ Nothing → false ≡ visibleAt rows k
     lost-ends f ne e g = sym (climb-lost false (visibleAsk rows) rows k up (sym e ∙ g)) ∙ goes-up ne
 
--- Past the rows held, and among them.
-module _ (words : List ℕ) (n i : ℕ) (count : n ≡ length (heldRows words)) where
-  pub climb-past : n ≤ i → false ≡ visibleAt (heldRows words) i
-  climb-past l = hidden-ends (heldRows words) i false (sym (ap (λ r. eqb (r .shown) 1) (List·getD-eq-default (heldRows words) noRow (omega arith)))) refl
+-- Past the rows that can be read, and among them.
+module _ (words : List ℕ) (n i : ℕ) (count : n ≡ length (readableRows words)) where
+  pub climb-past : n ≤ i → false ≡ visibleAt (readableRows words) i
+  climb-past l = hidden-ends (readableRows words) i false (sym (ap (λ r. eqb (r .shown) 1) (List·getD-eq-default (readableRows words) noRow (omega arith)))) refl
 
-  pub climb-held : (r : Bool) → i < n → r ≡ visibleAt (rowsOf words) i → r ≡ visibleAt (heldRows words) i
-  climb-held r l e = e ∙ ap (λ rows. visibleAt rows i) (sym (held-rows words (held-within words i (omega arith) .held)))
+  pub climb-within : (r : Bool) → i < n → r ≡ visibleAt (rowsOf words) i → r ≡ visibleAt (readableRows words) i
+  climb-within r l e = e ∙ ap (λ rows. visibleAt rows i) (sym (readable-rows words (readable-within words i (omega arith) .fits)))
 
 -- A document, where the scan for it ended.
-module _ (words : List ℕ) (d : ℕ) (f : Found) (scan : f ≡ foundBelow (isDoc (heldRows words) d) (length (heldRows words))) where
-  pub seen-absent : f ≡ Nothing → Refused Absent ≡ sightOf (heldRows words) d
+module _ (words : List ℕ) (d : ℕ) (f : Found) (scan : f ≡ foundBelow (isDoc (readableRows words) d) (length (readableRows words))) where
+  pub seen-absent : f ≡ Nothing → Refused Absent ≡ sightOf (readableRows words) d
   unfolding sightOf inRecord
-  seen-absent e = rw (found-nothing (isDoc (heldRows words) d) (length (heldRows words)) (sym scan ∙ e)) refl
+  seen-absent e = rw (found-nothing (isDoc (readableRows words) d) (length (readableRows words)) (sym scan ∙ e)) refl
 
   module _ (q : RowPlace) (e : f ≡ At q) where
     pub found-within : Within words (q .0)
-    found-within = held-within words (q .0) (found-lower (isDoc (heldRows words) d) (length (heldRows words)) q (sym scan ∙ e))
+    found-within = readable-within words (q .0) (found-lower (isDoc (readableRows words) d) (length (readableRows words)) q (sym scan ∙ e))
 
-    here : inRecord (heldRows words) d ≡ true
+    here : inRecord (readableRows words) d ≡ true
     unfolding inRecord
-    here = found-at (isDoc (heldRows words) d) (length (heldRows words)) q (sym scan ∙ e) .0
+    here = found-at (isDoc (readableRows words) d) (length (readableRows words)) q (sym scan ∙ e) .0
 
-    there : visible (heldRows words) d ≡ visibleAt (rowsOf words) (q .0)
+    there : visible (readableRows words) d ≡ visibleAt (rowsOf words) (q .0)
     unfolding visible visibleAt
     there =
-        climb-at false (visibleAsk (heldRows words)) (heldRows words) (length (heldRows words)) d q (sym scan ∙ e)
-        ∙ ap (λ rows. visibleAt rows (q .0)) (held-rows words (found-within .held))
+        climb-at false (visibleAsk (readableRows words)) (readableRows words) (length (readableRows words)) d q (sym scan ∙ e)
+        ∙ ap (λ rows. visibleAt rows (q .0)) (readable-rows words (found-within .fits))
 
-    pub seen-visible : (b : Bool) → b ≡ visibleAt (rowsOf words) (q .0) → b ≡ true → Visible ≡ sightOf (heldRows words) d
+    pub seen-visible : (b : Bool) → b ≡ visibleAt (rowsOf words) (q .0) → b ≡ true → Visible ≡ sightOf (readableRows words) d
     unfolding sightOf
     seen-visible b h t = rw (here, there ∙ sym h ∙ t) refl
 
-    pub seen-hidden : (b : Bool) → b ≡ visibleAt (rowsOf words) (q .0) → b ≡ false → Hidden ≡ sightOf (heldRows words) d
+    pub seen-hidden : (b : Bool) → b ≡ visibleAt (rowsOf words) (q .0) → b ≡ false → Hidden ≡ sightOf (readableRows words) d
     unfolding sightOf
     seen-hidden b h t = rw (here, there ∙ sym h ∙ t) refl
 
--- What is seen of a record whose rows are held.
-pub seen-is : (words : List ℕ) (d : ℕ) → length (rowsOf words) ≤ capacity words → (s : Sight) → s ≡ sightOf (heldRows words) d → SightIs (rowsOf words) d s
+-- What is seen of a record that has room for its rows.
+pub seen-is : (words : List ℕ) (d : ℕ) → length (rowsOf words) ≤ capacity words → (s : Sight) → s ≡ sightOf (readableRows words) d → SightIs (rowsOf words) d s
 unfolding sightOf
 seen-is words d l s e =
     let rows = rowsOf words in
-    subst (SightIs rows d) (sym (e ∙ ap (λ rows. sightOf rows d) (held-rows words l)))
+    subst (SightIs rows d) (sym (e ∙ ap (λ rows. sightOf rows d) (readable-rows words l)))
     (test (inRecord rows d)
     (λ h. test (visible rows d) (λ t. rw (h, t) (h, t)) (λ t. rw (h, t) (h, t)))
     (λ h. rw h (h, refl)))

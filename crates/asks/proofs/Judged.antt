@@ -8,22 +8,22 @@ use Rattle.base.specs.declared.Refusal.the-variants.{Hidden}
 use Rattle.base.specs.Numbers.{numberOf}
 use Rattle.rules.specs.Words.{rowsOf}
 use Rattle.rules.specs.Calls.{Rung, _when_, short, unsound, absent, hidden, Given, NoneGiven}
-use Rattle.rows.specs.Holds.{heldRows}
+use Rattle.rows.specs.Readable.{readableRows}
 use Rattle.sound.specs.Check.{Examined, Settles}
 use Rattle.sound.specs.declared.Check.{Check}
 use Rattle.sound.specs.declared.Check.the-variants.{Sound, No}
-use Rattle.sound.proofs.Checks.{examined-held}
+use Rattle.sound.proofs.Checks.{examined-fits}
 use Rattle.asks.specs.Answers.{sightOf, SightIs}
 use Rattle.asks.specs.declared.Sight.{Sight}
 use Rattle.asks.specs.declared.Sight.the-variants as Sights
 use Rattle.asks.proofs.Climbs.{seen-is}
 
-module _ (words : List ℕ) (e : Examined words) (d : ℕ) (rest : List Rung) (s : Sight) (is : s ≡ sightOf (heldRows words) d) where
+module _ (words : List ℕ) (e : Examined words) (d : ℕ) (rest : List Rung) (s : Sight) (is : s ≡ sightOf (readableRows words) d) where
   abbrev table : List Rung
   table = 1 when short words ∷ 2 when unsound words ∷ 4 when absent words d ∷ 5 when hidden words d ∷ rest
 
   tells : (t : Sight) → s ≡ t → SightIs (rowsOf words) d t
-  tells t f = subst (SightIs (rowsOf words) d) f (seen-is words d (examined-held words e) s is)
+  tells t f = subst (SightIs (rowsOf words) d) f (seen-is words d (examined-fits words e) s is)
 
   pub not-there : (r : Refusal) → s ≡ Sights.Refused r → Settles table (No r)
   unfolding Given

@@ -3,8 +3,8 @@ use base::DocNo;
 use base::FrameNo;
 use base::Refusal;
 use base::RowPlace;
-use held::Found;
-use held::NONE;
+use reads::Found;
+use reads::NONE;
 use sound::Check;
 use sound::Stand;
 use sound::Survey;
@@ -16,9 +16,9 @@ ghost use Rattle.rules.specs.Steps.{visibleAt};
 ghost use Rattle.rules.specs.Words.{rowsOf};
 ghost use Rattle.rules.specs.Asks.{ownList, stretched};
 ghost use Rattle.rules.specs.Calls.{Call, outcome};
-ghost use Rattle.held.specs.Held.{Within};
+ghost use Rattle.reads.specs.Within.{Within};
 ghost use Rattle.sound.specs.Survey.{Located};
-ghost use Rattle.rows.specs.Holds.{heldRows};
+ghost use Rattle.rows.specs.Readable.{readableRows};
 ghost use Rattle.asks.specs.Answers.{standingIs, sightIs, sightOf, stretchIs, listedIs};
 ghost use Rattle.asks.specs.Listing.{takenWith, upcomingWith, Begun, TakensTo, TakensFrom, UpcomingsTo, UpcomingsFrom};
 
@@ -52,14 +52,14 @@ fn ascend(words: &&[u32], at: RowPlace) -> bool
 {
     // The words come behind a second reference: a header that is copied at each call would keep the compiler from making a loop of it.
     let here = *words;
-    if !held::is_shown(here, at) {
+    if !reads::is_shown(here, at) {
         return false;
     }
-    let up = held::parent(here, at);
+    let up = reads::parent(here, at);
     if up.0 == NONE {
         return true;
     }
-    match held::find_below(here, at, up) {
+    match reads::find_below(here, at, up) {
         Found::At(above) => ascend(words, above),
         Found::Nothing => false,
     }
@@ -67,9 +67,9 @@ fn ascend(words: &&[u32], at: RowPlace) -> bool
 
 // The same of any place: past the rows that the words hold there is nothing to see.
 pub fn climb(words: &[u32], at: RowPlace) -> bool
-    ensures { λ r. ⌜ r ≡ visibleAt (heldRows (now (words .entry))) (at .0) ⌝ }
+    ensures { λ r. ⌜ r ≡ visibleAt (readableRows (now (words .entry))) (at .0) ⌝ }
 {
-    if rows::held_count(words) <= at.0 {
+    if rows::readable_count(words) <= at.0 {
         return false;
     }
     ascend(&words, at)
@@ -77,7 +77,7 @@ pub fn climb(words: &[u32], at: RowPlace) -> bool
 
 // Whether a document is there, and whether it is visible.
 pub fn seen(words: &[u32], d: DocNo) -> Sight
-    ensures { λ r. ⌜ r ≡ sightOf (heldRows (now (words .entry))) (d .0) ⌝ }
+    ensures { λ r. ⌜ r ≡ sightOf (readableRows (now (words .entry))) (d .0) ⌝ }
 {
     match rows::find(words, d) {
         Found::Nothing => Sight::Refused(Refusal::Absent),
@@ -179,10 +179,10 @@ fn list_mixed(words: &[u32], s: Stand, taken: &mut [u32], upcoming: &mut [u32]) 
     let mut i = 0;
     while i - m < frames {
         let at = RowPlace(i);
-        let step = held::is_step(words, at, high);
-        let d = held::document(words, at);
+        let step = reads::is_step(words, at, high);
+        let d = reads::document(words, at);
         list_step(step, d, m, s.position, taken, upcoming);
-        high = held::higher(high, held::frame(words, at));
+        high = reads::higher(high, reads::frame(words, at));
         m += step as usize;
         i += 1;
     }
@@ -204,7 +204,7 @@ fn list_taken(words: &[u32], from: RowPlace, s: Stand, taken: &mut [u32])
     let end = s.upcoming.0;
     let mut i = from.0;
     while i < end {
-        taken[end - 1 - i] = held::document(words, RowPlace(i)).0;
+        taken[end - 1 - i] = reads::document(words, RowPlace(i)).0;
         i += 1;
     }
 }
@@ -218,7 +218,7 @@ fn list_upcoming(words: &[u32], from: RowPlace, s: Stand, upcoming: &mut [u32])
     let first = n - s.steps + s.position;
     let mut i = later(from, s.upcoming).0;
     while i < n {
-        upcoming[i - first] = held::document(words, RowPlace(i)).0;
+        upcoming[i - first] = reads::document(words, RowPlace(i)).0;
         i += 1;
     }
 }

@@ -29,8 +29,8 @@ fn next_row(words: &[u32], trip: Trip, from: FrameNo) -> ChangeRow
 {
     let c = traverses::next_change(words, from, trip.before, trip.after);
     let frame = c.frame;
-    let before = held::document(words, c.old);
-    let after = held::document(words, c.new);
+    let before = reads::document(words, c.old);
+    let after = reads::document(words, c.new);
     ChangeRow {
         frame: frame,
         before: before,

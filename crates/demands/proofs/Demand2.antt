@@ -18,7 +18,7 @@ use Rattle.demands.specs.Refuses.{lines, HoldsIn, Applies, Absent, Hidde
 use Rattle.demands.specs.Model.{History, navigating, Same, Traverses}
 use Rattle.demands.specs.Follows.{ofRows, historyOf, FollowsModel, Demand2}
 use Rattle.demands.proofs.Accepted.{accepted-none, accepted-after, navigate-relies, go-relies}
-use Rattle.demands.proofs.Held.{held, held-rows, table-after}
+use Rattle.demands.proofs.Lasting.{lasting, lasting-rows, table-after}
 use Rattle.demands.proofs.Demand1.{demand1, outside-is}
 use Rattle.demands.proofs.Traverses.{traversed-inside, walk-model, theorem-1}
 use Rattle.demands.proofs.Shape.{is-history, well-formed, one-root}
@@ -57,7 +57,7 @@ module _ (words : List ℕ) (wide : Words32 words) (s : Sound words) where
   t = tableOf words
 
   rows : SoundRows (t .rows) (t .nextDoc) (t .nextFrame)
-  rows = held-rows (held words wide s)
+  rows = lasting-rows (lasting words wide s)
 
   navigated-model : (d : ℕ) → Accepted (on words (Move.navigates d)) → Same (navigating (historyOf words) d (t .nextDoc)) (historyOf (after words (Move.navigates d)))
   navigated-model d a =

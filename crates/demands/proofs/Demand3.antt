@@ -20,7 +20,7 @@ use Rattle.laws.proofs.Calls.{outcome-accepted}
 use Rattle.demands.specs.Record.{Words32, Accepted}
 use Rattle.demands.specs.Note.{positionIn, HandsDocument, HandsFrame, New, Noted, Demand3}
 use Rattle.demands.proofs.Accepted.{accepted-none, none-accepted, accepted-after, made, by-move}
-use Rattle.demands.proofs.Held.{held, held-rows, long, table-after}
+use Rattle.demands.proofs.Lasting.{lasting, lasting-rows, long, table-after}
 use Rattle.demands.proofs.Standing.{sound-kept, words-kept, run-kept}
 use Rattle.demands.proofs.Steady.{Steady, steady-stay, steady-then, steady-after}
 
@@ -119,13 +119,13 @@ module _ (words : List ℕ) (wide : Words32 words) (s : Sound words) where
   unfolding inRecord
   document-below d h =
       let r = some-out _ (length (rowsOf words)) h in
-      subst (λ e. e < tableOf words .nextDoc) (eqb-true _ _ (r .2)) (held-rows (held words wide s) .tree .below (r .0) (r .1))
+      subst (λ e. e < tableOf words .nextDoc) (eqb-true _ _ (r .2)) (lasting-rows (lasting words wide s) .tree .below (r .0) (r .1))
 
   frame-below : (f : ℕ) → So (isFrame (rowsOf words) f) → f < tableOf words .nextFrame
   unfolding isFrame
   frame-below f h =
       let r = some-out _ (length (rowsOf words)) h in
-      subst (λ e. e < tableOf words .nextFrame) (eqb-true _ _ (r .2)) (held-rows (held words wide s) .tree .framed (r .0) (r .1))
+      subst (λ e. e < tableOf words .nextFrame) (eqb-true _ _ (r .2)) (lasting-rows (lasting words wide s) .tree .framed (r .0) (r .1))
 
 -- A sound record is what its position shows.
 stands : (words : List ℕ) → Sound words → flagsAt (positionIn words) (rowsOf words) ≡ rowsOf words

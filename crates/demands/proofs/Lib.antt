@@ -5,7 +5,7 @@ pub mod Examples
 pub mod Determined
 pub mod Demand1
 pub mod Accepted
-pub mod Held
+pub mod Lasting
 pub mod Wide
 pub mod Standing
 pub mod Seen

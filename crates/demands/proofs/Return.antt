@@ -24,7 +24,7 @@ use Rattle.laws.proofs.Travel.{walked-at}
 use Rattle.laws.proofs.Navigate.{arrival, navigated-at, arrived-steps}
 use Rattle.demands.specs.Readings.{BackRestoresVisible}
 use Rattle.demands.proofs.Accepted.{accepted-none, accepted-after, navigate-relies, go-relies}
-use Rattle.demands.proofs.Held.{held, held-rows, table-after}
+use Rattle.demands.proofs.Lasting.{lasting, lasting-rows, table-after}
 use Rattle.demands.proofs.Standing.{sound-kept, words-kept}
 use Rattle.demands.proofs.Seen.{seen-append, seen-cleared}
 use Rattle.demands.proofs.Traverses.{lands-back}
@@ -81,7 +81,7 @@ back-restores-visible words d room wide s a b e =
     let m = Move.navigates d in
     let n = accepted-none _ a in
     let o = navigate-relies words d n in
-    let r = held-rows (held words wide s) in
+    let r = lasting-rows (lasting words wide s) in
     let next = after words m in
     let there : tableOf next ≡ navigated t d = table-after words wide s m n (accepted-after words m n) in
     let wide' = words-kept words wide s m in

@@ -21,7 +21,7 @@ use Rattle.laws.proofs.Calls.{outcome-accepted}
 use Rattle.demands.specs.Record.{Words32, Bytes, Accepted}
 use Rattle.demands.specs.Standing.{Stands, left, Standing}
 use Rattle.demands.proofs.Accepted.{accepted-none, made, by-move}
-use Rattle.demands.proofs.Held.{Held, long, made-held}
+use Rattle.demands.proofs.Lasting.{Lasting, long, made-lasting}
 use Rattle.demands.proofs.Wide.{written-wide}
 
 module _ (words : List ℕ) (wide : Words32 words) (s : Sound words) (m : Move) where
@@ -30,7 +30,7 @@ module _ (words : List ℕ) (wide : Words32 words) (s : Sound words) (m : Move) 
   sound-kept =
       let l = long words s in
       by-move words m
-      (λ h e. subst Sound (sym e) (written-sound words (made (tableOf words) m) (omega arith) (made-held words wide s m h .sound)))
+      (λ h e. subst Sound (sym e) (written-sound words (made (tableOf words) m) (omega arith) (made-lasting words wide s m h .sound)))
       (λ e. subst Sound (sym e) s)
 
   -- And its words are 32-bit: next numbers rise only when they are not 4294967295.
@@ -38,7 +38,7 @@ module _ (words : List ℕ) (wide : Words32 words) (s : Sound words) (m : Move) 
   words-kept =
       let l = long words s in
       by-move words m
-      (λ h e. subst Words32 (sym e) (written-wide words (made (tableOf words) m) wide (omega arith) (made-held words wide s m h)))
+      (λ h e. subst Words32 (sym e) (written-wide words (made (tableOf words) m) wide (omega arith) (made-lasting words wide s m h)))
       (λ e. subst Words32 (sym e) wide)
 
 -- So does every run of moves.
@@ -53,7 +53,7 @@ run-kept (m ∷ moves) words wide s = run-kept moves (after words m) (words-kept
 refit : {room other : ℕ} {t : Table} → SoundTable room t → length (t .rows) ≤ other → SoundTable other t
 refit s l = record { s1 = record { some = s .s1 .some; fits = l }; s2 = s .s2; s3 = s .s3; s4 = s .s4; s5 = s .s5; s6 = s .s6; s7 = s .s7 }
 
-written-stands : (words : List ℕ) (t : Table) → Words32 words → 3 ≤ length words → Held (capacity words) t → Stands (written words t)
+written-stands : (words : List ℕ) (t : Table) → Words32 words → 3 ≤ length words → Lasting (capacity words) t → Stands (written words t)
 written-stands words t wide l h = (written-wide words t wide l h, written-sound words t l (h .sound))
 
 fresh-sound : SoundTable 1 freshTable

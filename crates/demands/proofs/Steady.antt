@@ -23,7 +23,7 @@ use Rattle.laws.proofs.Travel.{walked-at}
 use Rattle.laws.proofs.Navigate.{arrival, opened-at, navigated-at, arrived-steps}
 use Rattle.demands.specs.Record.{Words32}
 use Rattle.demands.proofs.Accepted.{open-relies, navigate-relies, go-relies, made, by-move}
-use Rattle.demands.proofs.Held.{held, held-rows, table-after}
+use Rattle.demands.proofs.Lasting.{lasting, lasting-rows, table-after}
 use Rattle.demands.proofs.Seen.{seen-append, seen-cleared}
 
 -- From table t to table u: at position p the documents of t are seen as before, and next numbers do not fall.
@@ -99,12 +99,12 @@ module _ (p : ℕ) (words : List ℕ) (wide : Words32 words) (s : Sound words) (
   steady-made : (m : Move) → ((d : ℕ) → m ≡ Move.navigates d → p ≤ position (rowsOf words)) → NoneGiven (refusals (on words m)) → Steady p (tableOf words) (made (tableOf words) m)
   steady-made (Move.opens d) fair h =
       let o = open-relies words d h in
-      steady-open p (tableOf words) (held-rows (held words wide s)) enough (o .doc) d (o .seen)
+      steady-open p (tableOf words) (lasting-rows (lasting words wide s)) enough (o .doc) d (o .seen)
   steady-made (Move.navigates d) fair h =
       let o = navigate-relies words d h in
-      steady-navigate p (tableOf words) (held-rows (held words wide s)) enough (o .doc) d (o .seen) (fair d refl)
+      steady-navigate p (tableOf words) (lasting-rows (lasting words wide s)) enough (o .doc) d (o .seen) (fair d refl)
   steady-made (Move.goes δ room) fair h =
-      steady-go p (tableOf words) (held-rows (held words wide s)) enough δ (go-relies words δ room h .inside)
+      steady-go p (tableOf words) (lasting-rows (lasting words wide s)) enough δ (go-relies words δ room h .inside)
 
   pub steady-after : (m : Move) → ((d : ℕ) → m ≡ Move.navigates d → NoneGiven (refusals (on words m)) → p ≤ position (rowsOf words)) →
       Steady p (tableOf words) (tableOf (after words m))

@@ -13,9 +13,9 @@ use Rattle.laws.proofs.Tree.{tree-of}
 use Rattle.laws.proofs.Writes.{get-put-past}
 use Rattle.laws.proofs.Words.{rows-length, rows-row, length-wordsOf, capacity-written, table-written, written-sound}
 use Rattle.demands.specs.Record.{Words32}
-use Rattle.demands.proofs.Held.{Held}
+use Rattle.demands.proofs.Lasting.{Lasting}
 
-module _ (words : List ℕ) (s : Sound words) (h : Held (capacity words) (tableOf words)) where
+module _ (words : List ℕ) (s : Sound words) (h : Lasting (capacity words) (tableOf words)) where
   row-wide : (i : ℕ) → i < length (rowsOf words) →
       (docAt (rowsOf words) i ≤ none) × (frameAt (rowsOf words) i ≤ none) × (parentAt (rowsOf words) i ≤ none) × (shownAt (rowsOf words) i ≤ none)
   row-wide i l =
@@ -71,8 +71,8 @@ module _ (words : List ℕ) (s : Sound words) (h : Held (capacity words) (tableO
       subst (λ k. getD words k 0 ≤ none) e (word-wide i c (omega arith) (omega arith)))
       (λ b. let z = s .s8 .zeros k (omega arith) l in omega arith))
 
--- A table held, written over 32-bit words, is 32-bit words.
-pub written-wide : (words : List ℕ) (t : Table) → Words32 words → 3 ≤ length words → Held (capacity words) t → Words32 (written words t)
+-- A table lasting, written over 32-bit words, is 32-bit words.
+pub written-wide : (words : List ℕ) (t : Table) → Words32 words → 3 ≤ length words → Lasting (capacity words) t → Words32 (written words t)
 unfolding written
 written-wide words t wide l h k =
     let fits = h .sound .s1 .fits in
@@ -80,7 +80,7 @@ written-wide words t wide l h k =
     let e = table-written words t l fits in
     by-lt k (3 + 4 * capacity words)
     (λ a. inside-wide (written words t) (written-sound words t l (h .sound))
-    (subst (λ c. Held c (tableOf (written words t))) (sym c) (subst (Held (capacity words)) (sym e) h)) k (omega arith))
+    (subst (λ c. Lasting c (tableOf (written words t))) (sym c) (subst (Lasting (capacity words)) (sym e) h)) k (omega arith))
     (λ a.
     let n = length-wordsOf (capacity words) t fits in
     subst (λ x. x ≤ none) (sym (get-put-past (wordsOf (capacity words) t) words 0 k (omega arith))) (wide k))

@@ -22,7 +22,7 @@ use Rattle.laws.proofs.Central.{position-steps}
 use Rattle.laws.proofs.Standing.{steps-most}
 use Rattle.laws.proofs.Lists.{taken-length, upcoming-length}
 use Rattle.laws.proofs.Trips.{saved-length, frames-few}
-use Rattle.sound.proofs.Checks.{examined-sound, examined-held}
+use Rattle.sound.proofs.Checks.{examined-sound, examined-fits}
 use Rattle.laws.proofs.Outlines.{outline-bound}
 use Rattle.traverses.specs.declared.Traversed.{Traversed}
 use Rattle.traverses.specs.declared.Traversed.the-variants.{Changes, Refused}
@@ -53,7 +53,7 @@ module _ (words : List ℕ) (a : Answer) (runs : List (List ℕ)) where
   position-small p s l e g =
       let h = not-refused (Call.Position words) a runs _ e g in
       let v = given-is (Call.Position words) a runs _ e g in
-      let m = examined-held words (record { long = h .0; passes = not-false _ (h .1 .0) }) in
+      let m = examined-fits words (record { long = h .0; passes = not-false _ (h .1 .0) }) in
       let x : position (rowsOf words) ≡ p = ap (value 0) v in
       let y : steps (rowsOf words) ≡ s = ap (value 1) v in
       let z : steps (rowsOf words) ≡ l = ap (value 2) v in

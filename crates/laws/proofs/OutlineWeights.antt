@@ -164,10 +164,10 @@ module _ (w : ℕ → ℕ) (t : Table) (room : ℕ) (sound : SoundTable room t) 
   abbrev whole : ℕ → ℕ
   whole p = weigh w (documentText t p 0)
 
-  abbrev held : ℕ → ℕ → ℕ
-  held s d = weigh w (framesText t s 0 d)
+  abbrev inside : ℕ → ℕ → ℕ
+  inside s d = weigh w (framesText t s 0 d)
 
-  whole-is : (p : ℕ) → whole p ≡ w (docAt (t .rows) p) + held (suc p) (docAt (t .rows) p)
+  whole-is : (p : ℕ) → whole p ≡ w (docAt (t .rows) p) + inside (suc p) (docAt (t .rows) p)
   unfolding documentText weigh
   whole-is p = ap (λ x. w (docAt (t .rows) p) + x) (frames-level w t (suc p) 1 0 (docAt (t .rows) p) (t .nextFrame))
 
@@ -185,8 +185,8 @@ module _ (w : ℕ → ℕ) (t : Table) (room : ℕ) (sound : SoundTable room t) 
       ap (λ rows. weigh w (outlineFrame (frames t) rows 0 d f)) (drop-cons (t .rows) s noRow l)
       ∙ test (hit (t .rows) d f s) (λ y. rw y refl) (λ n. rw n refl)
 
-  held-step : (s d : ℕ) → s < length (t .rows) → held s d ≡ cond (under (t .rows) d s) (whole s) 0 + held (suc s) d
-  held-step s d l =
+  inside-step : (s d : ℕ) → s < length (t .rows) → inside s d ≡ cond (under (t .rows) d s) (whole s) 0 + inside (suc s) d
+  inside-step s d l =
       let rows = t .rows in
       below-weight w t s d (t .nextFrame)
       ∙ sum-same _ _ (t .nextFrame) (λ f m. frame-step s d f l)
@@ -201,11 +201,11 @@ module _ (w : ℕ → ℕ) (t : Table) (room : ℕ) (sound : SoundTable room t) 
       ∙ ap (λ x. whole s + x) (sym (below-weight w t (suc s) d (t .nextFrame)))))
       (λ n. rw n (omega (arith, below-weight w t (suc s) d (t .nextFrame))))
 
-  held-all : (k s d : ℕ) → s + k ≡ length (t .rows) → held s d ≡ after (λ j. cond (under (t .rows) d j) (whole j) 0) s k
+  inside-all : (k s d : ℕ) → s + k ≡ length (t .rows) → inside s d ≡ after (λ j. cond (under (t .rows) d j) (whole j) 0) s k
   unfolding after weigh
-  held-all zero s d e =
+  inside-all zero s d e =
       ap (weigh w) (below-skip t s 0 d 0 (t .nextFrame) (omega arith) (λ f a b. text-none t s 0 d f (λ j l m. absurd (omega arith))) ∙ below-zero t s 0 d)
-  held-all (suc k) s d e = held-step s d (omega arith) ∙ ap (λ x. cond (under (t .rows) d s) (whole s) 0 + x) (held-all k (suc s) d (omega arith))
+  inside-all (suc k) s d e = inside-step s d (omega arith) ∙ ap (λ x. cond (under (t .rows) d s) (whole s) 0 + x) (inside-all k (suc s) d (omega arith))
 
   -- A parent is none, or a visible document of the rows before m.
   abbrev up : ℕ → ℕ → Bool
@@ -237,7 +237,7 @@ module _ (w : ℕ → ℕ) (t : Table) (room : ℕ) (sound : SoundTable room t) 
   -- What is beneath a visible row.
   spread : (v : Bool) (k m : ℕ) → suc m + k ≡ length (t .rows) →
       cond v (whole m) 0 ≡ cond v (w (docAt (t .rows) m)) 0 + after (λ j. cond (v && under (t .rows) (docAt (t .rows) m) j) (whole j) 0) (suc m) k
-  spread true k m e = whole-is m ∙ ap (λ x. w (docAt (t .rows) m) + x) (held-all k (suc m) (docAt (t .rows) m) e)
+  spread true k m e = whole-is m ∙ ap (λ x. w (docAt (t .rows) m) + x) (inside-all k (suc m) (docAt (t .rows) m) e)
   spread false k m e = omega (arith, after-zero (λ j. cond (false && under (t .rows) (docAt (t .rows) m) j) (whole j) 0) k (suc m) (λ j. refl))
 
   -- The rows from m on whose parent is none or visible before m weigh what the visible rows from m on do.
@@ -256,7 +256,7 @@ module _ (w : ℕ → ℕ) (t : Table) (room : ℕ) (sound : SoundTable room t) 
   outline-weighs =
       let n = length (t .rows) in
       let e : 0 + n ≡ n = omega arith in
-      ap (weigh w) (sym (outline-code t none refl)) ∙ held-all n 0 none e
+      ap (weigh w) (sym (outline-code t none refl)) ∙ inside-all n 0 none e
       ∙ after-same _ _ n 0 (λ j. rw or-false refl)
       ∙ reaches n 0 e
       ∙ after-all (λ j. cond (visibleAt (t .rows) j) (w (docAt (t .rows) j)) 0) n

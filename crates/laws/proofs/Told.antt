@@ -47,9 +47,9 @@ module _ (bytes : List ℕ) where
 module _ (rows other : List Row) (nextDoc : ℕ) (s2 : S2 rows nextDoc) (some : 1 ≤ length rows)
     (from : (p : ℕ) → p < length other → (i : ℕ) × (i < length rows) × (rowAt other p ≡ rowAt rows i))
     (to : (i : ℕ) → i < length rows → (p : ℕ) × (p < length other) × (rowAt other p ≡ rowAt rows i)) where
-  held : (i : ℕ) → i < length rows → So (inRecord other (docAt rows i))
+  there : (i : ℕ) → i < length rows → So (inRecord other (docAt rows i))
   unfolding inRecord
-  held i l = let p = to i l in some-in (isDoc other (docAt rows i)) (length other) (p .1) (eq-eqb _ _ (ap (λ r. r .doc) (p .2)))
+  there i l = let p = to i l in some-in (isDoc other (docAt rows i)) (length other) (p .1) (eq-eqb _ _ (ap (λ r. r .doc) (p .2)))
 
   -- A number between the documents of rows i - 1 and i.
   gap : (i d : ℕ) → ((k : ℕ) → k < i → k < length rows → docAt rows k < d) → ((k : ℕ) → i ≤ k → k < length rows → d < docAt rows k) → inRecord other d ≡ false
@@ -72,7 +72,7 @@ module _ (rows other : List Row) (nextDoc : ℕ) (s2 : S2 rows nextDoc) (some : 
   counted (suc i) l =
       count-flat (inRecord other) (docAt rows (suc i)) {i = suc (docAt rows i)} (s2 .rise i l)
       (λ d a b. gap (suc i) d (λ k c e. omega (arith, up k i (omega arith) (omega arith))) (λ k c e. omega (arith, up (suc i) k c e)))
-      ∙ count-yes (inRecord other) (docAt rows i) (held i (omega arith)) ∙ ap suc (counted i (omega arith))
+      ∙ count-yes (inRecord other) (docAt rows i) (there i (omega arith)) ∙ ap suc (counted i (omega arith))
 
   all-counted : count (inRecord other) nextDoc ≡ length rows
   all-counted =
@@ -80,7 +80,7 @@ module _ (rows other : List Row) (nextDoc : ℕ) (s2 : S2 rows nextDoc) (some : 
       let e : suc m ≡ length rows = omega arith in
       count-flat (inRecord other) nextDoc {i = suc (docAt rows m)} (s2 .last)
       (λ d a b. gap (length rows) d (λ k c n. omega (arith, up k m (omega arith) (omega arith))) (λ k c n. absurd (omega arith)))
-      ∙ count-yes (inRecord other) (docAt rows m) (held m (omega arith)) ∙ ap suc (counted m (omega arith)) ∙ e
+      ∙ count-yes (inRecord other) (docAt rows m) (there m (omega arith)) ∙ ap suc (counted m (omega arith)) ∙ e
 
   pub in-order : gather (inRecord other) (λ d. rowAt other (place other d)) nextDoc ≡ rows
   unfolding inRecord place

@@ -69,7 +69,7 @@ module _ (rows : List Row) where
 
 pub full-is : (words : List ℕ) (n c p s : ℕ) → n ≡ length (rowsOf words) → c ≡ capacity words → length (rowsOf words) ≤ capacity words → p ≡ position (rowsOf words) → s ≡ steps (rowsOf words) →
     (eqb n c && eqb s p) ≡ full words (cleared (rowsOf words))
-full-is words n c p s en ec held ep es =
+full-is words n c p s en ec fits ep es =
     same-tests
     (λ h.
     let t = simp and-eq-true-iff at h in
@@ -88,7 +88,7 @@ room-left-over words n c en ec l =
 
 pub full-counted : (words : List ℕ) (n c p s : ℕ) → n ≡ length (rowsOf words) → c ≡ capacity words → length (rowsOf words) ≤ capacity words → c ≤ n → p ≡ position (rowsOf words) → s ≡ steps (rowsOf words) →
     eqb s p ≡ full words (cleared (rowsOf words))
-full-counted words n c p s en ec held l ep es = let e : eqb n c ≡ true = eq-eqb n c (omega arith) in rw e at (full-is words n c p s en ec held ep es)
+full-counted words n c p s en ec fits l ep es = let e : eqb n c ≡ true = eq-eqb n c (omega arith) in rw e at (full-is words n c p s en ec fits ep es)
 
 -- REFUSALS 7 AND 8
 

@@ -22,10 +22,10 @@ use Rattle.laws.proofs.Removal.{SoundRows, sound-rows, stays}
 use Rattle.laws.proofs.Standing.{upto-start, rest-upcoming}
 use Rattle.laws.proofs.Words.{rows-length, rows-row, length-words}
 use Rattle.laws.proofs.Writes.{length-put, put-put, put-same, get-put-in, get-put-past, get-put-before}
-use Rattle.held.specs.Held.{Within}
-use Rattle.held.proofs.Nexts.{Earliest, earliest-out}
+use Rattle.reads.specs.Within.{Within}
+use Rattle.reads.proofs.Nexts.{Earliest, earliest-out}
 use Rattle.sound.specs.Check.{Examined}
-use Rattle.sound.proofs.Checks.{examined-sound, examined-held}
+use Rattle.sound.proofs.Checks.{examined-sound, examined-fits}
 use Rattle.navigates.specs.Packing.{joins, removalEnd, Ends, Moved}
 use Rattle.navigates.proofs.Judges.{cleared-length}
 use Rattle.navigates.proofs.Stays.{early-stays, joins-is}
@@ -49,7 +49,7 @@ words-snoc [] r = refl
 words-snoc (x ∷ rows) r = ap (λ t. rowWords x ++ t) (words-snoc rows r) ∙ sym (append-assoc (rowWords x) (flatMap rowWords rows) (rowWords r))
 
 -- Rows put over the first ones of a record.
-module _ (old : List ℕ) (held : length (rowsOf old) ≤ capacity old) (rs : List Row) (few : length rs ≤ length (rowsOf old)) where
+module _ (old : List ℕ) (fits : length (rowsOf old) ≤ capacity old) (rs : List Row) (few : length rs ≤ length (rowsOf old)) where
   abbrev over : List ℕ
   over = put old 3 (flatMap rowWords rs)
 
@@ -77,9 +77,9 @@ module _ (old : List ℕ) (held : length (rowsOf old) ≤ capacity old) (rs : Li
       rows-row over j (omega (arith, same-head, rows-length old)) ∙ same ∙ sym (rows-row old j (omega (arith, rows-length old)))
 
 -- The first rows put where they are.
-pub over-same : (old : List ℕ) (held : length (rowsOf old) ≤ capacity old) (rs : List Row) → length rs ≤ length (rowsOf old) →
+pub over-same : (old : List ℕ) (fits : length (rowsOf old) ≤ capacity old) (rs : List Row) → length rs ≤ length (rowsOf old) →
     ((j : ℕ) → j < length rs → rowAt rs j ≡ rowAt (rowsOf old) j) → put old 3 (flatMap rowWords rs) ≡ old
-over-same old held rs few h =
+over-same old fits rs few h =
     put-same (flatMap rowWords rs) old 3 (λ k l.
     let n = length-words rs in
     let j = k / 4 in
@@ -142,8 +142,8 @@ module _ (old : List ℕ) (e : Examined old) (word : tableOf old .nextDoc ≤ no
   sound-in : SoundRows (rowsOf old) (tableOf old .nextDoc) (tableOf old .nextFrame)
   sound-in = sound-rows (examined-sound old e .table) word
 
-  held : length (rowsOf old) ≤ capacity old
-  held = examined-held old e
+  fits : length (rowsOf old) ≤ capacity old
+  fits = examined-fits old e
 
   fewer : (i : ℕ) → i ≤ length (rowsOf old) → length (keptTo old i) ≤ length (rowsOf old)
   fewer i l = omega (arith, length-gather (keepIn old) (rowAt (rowsOf old)) i, count-most (keepIn old) i)
@@ -152,10 +152,10 @@ module _ (old : List ℕ) (e : Examined old) (word : tableOf old .nextDoc ≤ no
   pub packed-within : (i k : ℕ) (new : List ℕ) → Packed old i k new → i < length (rowsOf old) → Within new i × (k ≤ i)
   packed-within i k new p l =
       let few = fewer i (omega arith) in
-      let a : length (rowsOf new) ≡ length (rowsOf old) = ap (λ w. length (rowsOf w)) (p .packed) ∙ over-length old held (keptTo old i) few in
-      let b : capacity new ≡ capacity old = ap capacity (p .packed) ∙ over-capacity old held (keptTo old i) few in
-      let h = held in
-      (record { held = omega arith; below = omega arith }, omega (arith, p .places, count-most (keepIn old) i))
+      let a : length (rowsOf new) ≡ length (rowsOf old) = ap (λ w. length (rowsOf w)) (p .packed) ∙ over-length old fits (keptTo old i) few in
+      let b : capacity new ≡ capacity old = ap capacity (p .packed) ∙ over-capacity old fits (keptTo old i) few in
+      let h = fits in
+      (record { fits = omega arith; below = omega arith }, omega (arith, p .places, count-most (keepIn old) i))
 
   module _ (start : ℕ) (first : start ≡ earliest (upcoming (rowsOf old)) (length (rowsOf old))) where
     begins : Earliest (upcoming (rowsOf old)) (length (rowsOf old)) start
@@ -173,7 +173,7 @@ module _ (old : List ℕ) (e : Examined old) (word : tableOf old .nextDoc ≤ no
         let n : count (keepIn old) start ≡ start = count-all (keepIn old) start early in
         record {
           places = sym n;
-          packed = sym (over-same old held (keptTo old start) (fewer start starts-within) (λ j l.
+          packed = sym (over-same old fits (keptTo old start) (fewer start starts-within) (λ j l.
               let m : j < start = omega (arith, length-gather (keepIn old) (rowAt (rowsOf old)) start) in
               ap (λ x. rowAt (keptTo old start) x) (sym (count-all (keepIn old) j (λ i b. early i (omega arith)))) ∙ gather-at (keepIn old) (rowAt (rowsOf old)) start _ m (early j m)));
         }
@@ -184,8 +184,8 @@ module _ (old : List ℕ) (e : Examined old) (word : tableOf old .nextDoc ≤ no
         let few = fewer i (omega arith) in
         let size = length-gather (keepIn old) (rowAt (rowsOf old)) i in
         let test-there = joins-is (rowsOf old) sound-in (rowsOf (put old 3 (flatMap rowWords (keptTo old i)))) i l
-        (over-rest old held (keptTo old i) few i (omega (arith, count-most (keepIn old) i)) l)
-        (λ j m t. over-row old held (keptTo old i) few (count (keepIn old) j) (omega (arith, count-in (keepIn old) i m t)) ∙ gather-at (keepIn old) (rowAt (rowsOf old)) i _ m t)
+        (over-rest old fits (keptTo old i) few i (omega (arith, count-most (keepIn old) i)) l)
+        (λ j m t. over-row old fits (keptTo old i) few (count (keepIn old) j) (omega (arith, count-in (keepIn old) i m t)) ∙ gather-at (keepIn old) (rowAt (rowsOf old)) i _ m t)
         start late (begins .passes (omega arith)) in
         ap (λ w. joins (rowsOf w) k i) (p .packed) ∙ ap (λ x. joins (rowsOf (put old 3 (flatMap rowWords (keptTo old i)))) x i) (p .places) ∙ test-there
 
@@ -196,7 +196,7 @@ module _ (old : List ℕ) (e : Examined old) (word : tableOf old .nextDoc ≤ no
         let few = fewer i (omega arith) in
         let size = length-gather (keepIn old) (rowAt (rowsOf old)) i in
         let row : rowAt (rowsOf new) i ≡ rowAt (rowsOf old) i =
-        ap (λ w. rowAt (rowsOf w) i) (p .packed) ∙ over-rest old held (keptTo old i) few i (omega (arith, count-most (keepIn old) i)) l in
+        ap (λ w. rowAt (rowsOf w) i) (p .packed) ∙ over-rest old fits (keptTo old i) few i (omega (arith, count-most (keepIn old) i)) l in
         let place : 3 + 4 * k ≡ 3 + length (flatMap rowWords (keptTo old i)) = omega (arith, p .places, length-words (keptTo old i)) in
         subst (λ x. Packed old x r next) (sym (add-one i)) (test (keepIn old i)
         (λ s.

@@ -26,8 +26,8 @@ use Rattle.laws.proofs.Climb.{sees-out}
 use Rattle.laws.proofs.Removal.{SoundRows, sound-rows, stays, cleared-removed, visible-stays}
 use Rattle.laws.proofs.Words.{rows-length, length-words}
 use Rattle.laws.proofs.Writes.{put-one, put-put, put-far, put-before, put-same, get-put-past}
-use Rattle.held.specs.Held.{Within}
-use Rattle.sound.proofs.Checks.{examined-sound, examined-held}
+use Rattle.reads.specs.Within.{Within}
+use Rattle.sound.proofs.Checks.{examined-sound, examined-fits}
 use Rattle.navigates.specs.Packing.{settled}
 use Rattle.navigates.proofs.Judges.{Free, cleared-length}
 use Rattle.navigates.proofs.Packed.{words-snoc, over-length, over-capacity, over-row}
@@ -112,8 +112,8 @@ module _ (old : List ℕ) (d : ℕ) (f : Free old d) (word : tableOf old .nextDo
   clear-sound : SoundRows c (tableOf old .nextDoc) (tableOf old .nextFrame)
   clear-sound = cleared-removed rows sound-in .sound
 
-  held : length rows ≤ capacity old
-  held = examined-held old (f .examined)
+  fits : length rows ≤ capacity old
+  fits = examined-fits old (f .examined)
 
   clear-fewer : length c ≤ length rows
   clear-fewer = omega (arith, cleared-length rows, count-most (stays (upcoming rows) rows) (length rows))
@@ -139,20 +139,20 @@ module _ (old : List ℕ) (d : ℕ) (f : Free old d) (word : tableOf old .nextDo
       r .4 ∙ ap (rowAt rows) (sym (place-is rows (sound-in .tree) (r .0) d (r .1) (ap (λ x. x .doc) (sym (r .4)) ∙ e)))
 
   module _ (packed : List ℕ) (is : packed ≡ put old 3 (flatMap rowWords c)) where
-    packed-held : length (rowsOf packed) ≤ capacity packed
-    packed-held =
-        let a : length (rowsOf packed) ≡ length rows = ap (λ w. length (rowsOf w)) is ∙ over-length old held c clear-fewer in
-        let b : capacity packed ≡ capacity old = ap capacity is ∙ over-capacity old held c clear-fewer in
-        let h = held in omega arith
+    packed-fits : length (rowsOf packed) ≤ capacity packed
+    packed-fits =
+        let a : length (rowsOf packed) ≡ length rows = ap (λ w. length (rowsOf w)) is ∙ over-length old fits c clear-fewer in
+        let b : capacity packed ≡ capacity old = ap capacity is ∙ over-capacity old fits c clear-fewer in
+        let h = fits in omega arith
 
     packed-rows : length (rowsOf packed) ≡ length rows
-    packed-rows = ap (λ w. length (rowsOf w)) is ∙ over-length old held c clear-fewer
+    packed-rows = ap (λ w. length (rowsOf w)) is ∙ over-length old fits c clear-fewer
 
     packed-capacity : capacity packed ≡ capacity old
-    packed-capacity = ap capacity is ∙ over-capacity old held c clear-fewer
+    packed-capacity = ap capacity is ∙ over-capacity old fits c clear-fewer
 
     row-there : (j : ℕ) → j < length c → rowAt (rowsOf packed) j ≡ rowAt c j
-    row-there j l = ap (λ w. rowAt (rowsOf w) j) is ∙ over-row old held c clear-fewer j l
+    row-there j l = ap (λ w. rowAt (rowsOf w) j) is ∙ over-row old fits c clear-fewer j l
 
     -- d's row is found.
     still-there : (k : ℕ) → k ≡ length c → So (someBelow k (isDoc (rowsOf packed) d))
@@ -162,14 +162,14 @@ module _ (old : List ℕ) (d : ℕ) (f : Free old d) (word : tableOf old .nextDo
 
     -- What the search for d's row and the settling may rely on.
     pub place-asks : (k : ℕ) → k ≡ length c → (length (rowsOf packed) ≤ capacity packed) × (k ≤ length (rowsOf packed)) × So (someBelow k (isDoc (rowsOf packed) d))
-    place-asks k e = (packed-held, omega (arith, packed-rows, clear-fewer), still-there k e)
+    place-asks k e = (packed-fits, omega (arith, packed-rows, clear-fewer), still-there k e)
 
     pub settle-asks : (q k n e : ℕ) → k ≡ length c → n ≡ length rows → e ≡ tableOf old .nextDoc → q < k → Within packed q × (k < capacity packed) × (n ≤ capacity packed) × (e < none)
     settle-asks q k n e a b g l =
         let r = f .room in
         let u = f .unused in
         let cap = packed-capacity in
-        (record { held = packed-held; below = omega (arith, packed-rows, clear-fewer) }, omega arith, omega (arith, held), omega (arith, word))
+        (record { fits = packed-fits; below = omega (arith, packed-rows, clear-fewer) }, omega arith, omega (arith, fits), omega (arith, word))
 
     module _ (q : ℕ) (l : q < length c) (found : docAt (rowsOf packed) q ≡ d) where
       doc-there : docAt c q ≡ d
@@ -222,7 +222,7 @@ module _ (old : List ℕ) (d : ℕ) (f : Free old d) (word : tableOf old .nextDo
       zeros-there : put old 0 (start ++ replicate more 0) ≡ put old 0 start
       zeros-there =
           let n = start-length in
-          let h = held in
+          let h = fits in
           let r = f .room in
           sym (put-put start (replicate more 0) old 0) ∙ put-same (replicate more 0) (put old 0 start) (0 + length start) (λ j b.
           let m : j < more = subst (λ x. j < x) (length-replicate more 0) b in
@@ -233,7 +233,7 @@ module _ (old : List ℕ) (d : ℕ) (f : Free old d) (word : tableOf old .nextDo
       unfolding wordsOf navigated
       wordsOf-is =
           let t : flatMap rowWords all ++ replicate (4 * (capacity old - length all)) 0 ≡ (flatMap rowWords all ++ zeros) ++ replicate more 0 =
-          ap (λ x. flatMap rowWords all ++ replicate (4 * (capacity old - x)) 0) all-length ∙ zeros-split (flatMap rowWords all) (capacity old) (length rows) (length c) (f .room) held in
+          ap (λ x. flatMap rowWords all ++ replicate (4 * (capacity old - x)) 0) all-length ∙ zeros-split (flatMap rowWords all) (capacity old) (length rows) (length c) (f .room) fits in
           ap₂ (λ x y. x ∷ suc (tableOf old .nextDoc) ∷ tableOf old .nextFrame ∷ y) (all-length ∙ sym (add-one (length c))) t
           ∙ ap (λ x. (length c + 1) ∷ x ∷ tableOf old .nextFrame ∷ ((flatMap rowWords all ++ zeros) ++ replicate more 0)) (sym (add-one (tableOf old .nextDoc)))
 

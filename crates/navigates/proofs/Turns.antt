@@ -13,11 +13,11 @@ use Rattle.rules.specs.Steps.{same}
 use Rattle.rules.specs.Words.{put, rowsOf}
 use Rattle.laws.proofs.Tests.{clash, latest-out}
 use Rattle.laws.proofs.Writes.{put-none}
-use Rattle.held.specs.Found.{foundBelow}
-use Rattle.held.specs.declared.Found.{Found}
-use Rattle.held.specs.declared.Found.the-variants.{At, Nothing}
-use Rattle.held.proofs.Scans.{found-at, found-lower, found-nothing}
-use Rattle.rows.specs.Holds.{readOf}
+use Rattle.reads.specs.Found.{foundBelow}
+use Rattle.reads.specs.declared.Found.{Found}
+use Rattle.reads.specs.declared.Found.the-variants.{At, Nothing}
+use Rattle.reads.proofs.Scans.{found-at, found-lower, found-nothing}
+use Rattle.rows.specs.Readable.{readOf}
 use Rattle.rows.specs.declared.Row.{Row as Read}
 use Rattle.navigates.specs.Packing.{joins, Moved, settled}
 

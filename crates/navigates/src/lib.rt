@@ -4,8 +4,8 @@ use base::DocNo;
 use base::FrameNo;
 use base::Refusal;
 use base::RowPlace;
-use held::Found;
-use held::NONE;
+use reads::Found;
+use reads::NONE;
 use sound::Check;
 use sound::Stand;
 use sound::Survey;
@@ -20,7 +20,7 @@ ghost use Rattle.rules.specs.Steps.{same, upcoming};
 ghost use Rattle.rules.specs.Moves.{cleared, navigated};
 ghost use Rattle.rules.specs.Words.{capacity, put, tableOf, rowsOf, rowWords, written};
 ghost use Rattle.rules.specs.Calls.{Call, full, refusals, NoneGiven, outcome};
-ghost use Rattle.held.specs.Held.{Within};
+ghost use Rattle.reads.specs.Within.{Within};
 ghost use Rattle.sound.specs.Check.{Examined, Settles, Judged};
 ghost use Rattle.sound.specs.Survey.{Located};
 ghost use Rattle.navigates.specs.Answers.{navigatedIs, roomRungs};
@@ -68,7 +68,7 @@ fn frame_before(words: &[u32], at: RowPlace, k: usize) -> bool
     requires { ⌜ Within (now words) (at .0) × (k ≤ at .0) ⌝ }
     ensures { λ r. ⌜ r ≡ someBelow k (same (frameAt (rowsOf (now (words .entry)))) (at .0)) ⌝ }
 {
-    match held::latest_of(words, RowPlace(k), held::frame(words, at)) {
+    match reads::latest_of(words, RowPlace(k), reads::frame(words, at)) {
         Found::At(_) => true,
         Found::Nothing => false,
     }
@@ -82,7 +82,7 @@ fn row_joins(words: &[u32], at: RowPlace, k: usize) -> bool
     if frame_before(words, at, k) {
         return false;
     }
-    match held::find_below(words, RowPlace(k), held::parent(words, at)) {
+    match reads::find_below(words, RowPlace(k), reads::parent(words, at)) {
         Found::At(_) => true,
         Found::Nothing => false,
     }
@@ -133,7 +133,7 @@ fn place_before(words: &[u32], k: usize, d: DocNo) -> RowPlace
     requires { ⌜ (length (rowsOf (now words)) ≤ capacity (now words)) × (k ≤ length (rowsOf (now words))) × So (someBelow k (isDoc (rowsOf (now words)) (d .0))) ⌝ }
     ensures { λ r. ⌜ (r .0 < k) × (docAt (rowsOf (now (words .entry))) (r .0) ≡ d .0) ⌝ }
 {
-    match held::find_below(words, RowPlace(k), d) {
+    match reads::find_below(words, RowPlace(k), d) {
         Found::At(at) => at,
         Found::Nothing => RowPlace(0),
     }

@@ -8,7 +8,7 @@ use Rattle.rules.specs.Words.{capacity, rowsOf}
 -- and the text ends within two words a row.
 pub record Ready (words : List ℕ) (s depth k : ℕ) (text : List ℕ) : Type 0 where
   pub long : 7 ≤ length words
-  pub held : length (rowsOf words) ≤ capacity words
+  pub fits : length (rowsOf words) ≤ capacity words
   pub upto : s ≤ length (rowsOf words)
   pub shallow : depth ≤ s
   pub small : k + length text ≤ 1024

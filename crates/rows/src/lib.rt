@@ -1,15 +1,14 @@
-// Reading any words as a record: capacity, numbers, rows, and what is found among them. A row is read where the words hold the rows in use; past them every number is 0.
+// Reading any words as a record: capacity, numbers, rows, and what is found among them. A row is read where there is room for the rows in use; past them every number is 0.
 use base::DocNo;
 use base::FrameNo;
 use base::RowPlace;
-use held::Found;
+use reads::Found;
 ghost use mathlib.Core.Path.{_≡_};
 ghost use lib.ListN.{length, getD};
 ghost use Rattle.rules.specs.Rows.{rowAt, isDoc};
 ghost use Rattle.rules.specs.Words.{capacity, tableOf, rowsOf};
-ghost use Rattle.held.specs.Found.{foundBelow};
-ghost use Rattle.held.specs.Nexts.{lowestOf};
-ghost use Rattle.rows.specs.Holds.{heldRows, readOf, previousOf};
+ghost use Rattle.reads.specs.Found.{foundBelow};
+ghost use Rattle.rows.specs.Readable.{readableRows, readOf};
 
 // A word; 0 past the end.
 fn word(words: &[u32], k: usize) -> u32
@@ -58,9 +57,9 @@ pub fn next_frame_number(words: &[u32]) -> FrameNo
     FrameNo(word(words, 2))
 }
 
-// How many rows the words hold: those in use, or none where there is no room for them.
-pub fn held_count(words: &[u32]) -> usize
-    ensures { λ r. ⌜ r ≡ length (heldRows (now (words .entry))) ⌝ }
+// How many rows can be read: those in use, or none where there is no room for them.
+pub fn readable_count(words: &[u32]) -> usize
+    ensures { λ r. ⌜ r ≡ length (readableRows (now (words .entry))) ⌝ }
 {
     let n = row_count(words);
     if capacity(words) < n {
@@ -77,11 +76,11 @@ pub struct Row {
     pub shown: u32,
 }
 
-// A row; four zeros past those held.
+// A row; four zeros past those that can be read.
 pub fn read_row(words: &[u32], at: RowPlace) -> Row
-    ensures { λ r. ⌜ r ≡ readOf (rowAt (heldRows (now (words .entry))) (at .0)) ⌝ }
+    ensures { λ r. ⌜ r ≡ readOf (rowAt (readableRows (now (words .entry))) (at .0)) ⌝ }
 {
-    if held_count(words) <= at.0 {
+    if readable_count(words) <= at.0 {
         return Row {
             document: DocNo(0),
             frame: FrameNo(0),
@@ -89,10 +88,10 @@ pub fn read_row(words: &[u32], at: RowPlace) -> Row
             shown: 0,
         };
     }
-    let document = held::document(words, at);
-    let frame = held::frame(words, at);
-    let parent = held::parent(words, at);
-    let shown = held::shown(words, at);
+    let document = reads::document(words, at);
+    let frame = reads::frame(words, at);
+    let parent = reads::parent(words, at);
+    let shown = reads::shown(words, at);
     Row {
         document,
         frame,
@@ -103,34 +102,11 @@ pub fn read_row(words: &[u32], at: RowPlace) -> Row
 
 // The row of a document.
 pub fn find(words: &[u32], d: DocNo) -> Found
-    ensures { λ r. ⌜ r ≡ foundBelow (isDoc (heldRows (now (words .entry))) (d .0)) (length (heldRows (now (words .entry)))) ⌝ }
+    ensures { λ r. ⌜ r ≡ foundBelow (isDoc (readableRows (now (words .entry))) (d .0)) (length (readableRows (now (words .entry)))) ⌝ }
 {
-    let n = held_count(words);
+    let n = readable_count(words);
     if n == 0 {
         return Found::Nothing;
     }
-    held::find_below(words, RowPlace(n), d)
-}
-
-// The row before a row in its frame.
-pub fn previous(words: &[u32], at: RowPlace) -> Found
-    ensures { λ r. ⌜ r ≡ previousOf (heldRows (now (words .entry))) (at .0) ⌝ }
-{
-    let n = held_count(words);
-    if n <= at.0 {
-        return Found::Nothing;
-    }
-    held::latest_of(words, at, held::frame(words, at))
-}
-
-// The lowest frame number of the rows held from a bound on; the next frame number where there is none.
-pub fn next_frame(words: &[u32], from: FrameNo) -> FrameNo
-    ensures { λ r. ⌜ r .0 ≡ lowestOf (heldRows (now (words .entry))) 0 (length (heldRows (now (words .entry)))) (from .0) (tableOf (now (words .entry)) .nextFrame) ⌝ }
-{
-    let top = next_frame_number(words);
-    let n = held_count(words);
-    if 0 < n {
-        return held::lowest_of(words, RowPlace(0), RowPlace(n), from, top);
-    }
-    top
+    reads::find_below(words, RowPlace(n), d)
 }

@@ -87,8 +87,8 @@ module _ (words : List ℕ) (e : Examined words) where
   pub examined-sound : Sound words
   examined-sound = sound-is words .0 (e .passes)
 
-  pub examined-held : length (rowsOf words) ≤ capacity words
-  examined-held = examined-sound .table .s1 .fits
+  pub examined-fits : length (rowsOf words) ≤ capacity words
+  examined-fits = examined-sound .table .s1 .fits
 
 -- What a judge's word is worth.
 module _ (c : Call) (k : Check) (j : Judged c k) where

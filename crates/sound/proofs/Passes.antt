@@ -19,14 +19,14 @@ use Rattle.rules.specs.Moves.{rowBefore}
 use Rattle.rules.specs.Words.{capacity, rowsOf}
 use Rattle.rules.specs.Sound.{zero?, s8?}
 use Rattle.laws.proofs.Words.{rows-length}
-use Rattle.held.specs.Found.{foundBelow}
-use Rattle.held.specs.declared.Found.{Found}
-use Rattle.held.specs.declared.Found.the-variants.{At, Nothing}
+use Rattle.reads.specs.Found.{foundBelow}
+use Rattle.reads.specs.declared.Found.{Found}
+use Rattle.reads.specs.declared.Found.the-variants.{At, Nothing}
 use Rattle.laws.proofs.Tests.{test, clash, off, and-true, or-false, some-in, some-out, all-in, all-out, count-yes, count-no}
-use Rattle.held.specs.Held.{Within}
-use Rattle.held.specs.Under.{Under}
+use Rattle.reads.specs.Within.{Within}
+use Rattle.reads.specs.Under.{Under}
 use Rattle.laws.proofs.Loops.{all-flag, count-more, earliest-none, latest-yes, latest-no}
-use Rattle.held.proofs.Scans.{found-at, found-lower, found-nothing, under-more}
+use Rattle.reads.proofs.Scans.{found-at, found-lower, found-nothing, under-more}
 use Rattle.sound.specs.Quick.{bounded, linked, comes, calm, plain, joined, rowFine, evenly}
 use Rattle.sound.specs.Pass.{Passed, Onward, StepAfter, TellsTo, Tells, upcomingOf}
 use Rattle.sound.specs.declared.Pass.{Pass}
@@ -60,7 +60,7 @@ module _ (rows : List Row) (i : ℕ) where
   bit-is l = test (isShown rows i) (λ t. rw t (eqb-true (shownAt rows i) 1 t)) (λ f. let z : shownAt rows i ≡ 0 = omega (arith, eqb-false (shownAt rows i) 1 f) in rw f z)
 
 pub prior-within : (words : List ℕ) (i j : ℕ) → Within words i → StepAfter (rowsOf words) i j → Within words j
-prior-within words i j w s = let l = s .lower in let b = w .below in record { held = w .held; below = omega arith }
+prior-within words i j w s = let l = s .lower in let b = w .below in record { fits = w .fits; below = omega arith }
 
 -- THE PASS, ROW BY ROW
 

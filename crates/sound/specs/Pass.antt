@@ -10,7 +10,7 @@ use Rattle.rules.specs.Below.{someBelow, allBelow, count, earliest, latest}
 use Rattle.rules.specs.Rows.{Row, frameAt, shownAt, isShown, isDoc}
 use Rattle.rules.specs.Moves.{rowBefore}
 use Rattle.rules.specs.Steps.{isStep}
-use Rattle.held.specs.Under.{Under}
+use Rattle.reads.specs.Under.{Under}
 use Rattle.sound.specs.Quick.{comes, joined}
 use Rattle.sound.specs.declared.Pass.{Pass}
 use Rattle.sound.specs.declared.Tested.{Tested}

@@ -7,8 +7,8 @@ use base::DocNo;
 use base::FrameNo;
 use base::Refusal;
 use base::RowPlace;
-use held::Found;
-use held::NONE;
+use reads::Found;
+use reads::NONE;
 ghost use mathlib.Core.Path.{_≡_};
 ghost use mathlib.Core.Bool.{true, false, _&&_, cond};
 ghost use Prim.Native.Nat.{_+_, _-_, _<_, _≤_};
@@ -19,7 +19,7 @@ ghost use Rattle.rules.specs.Steps.{isStep};
 ghost use Rattle.rules.specs.Words.{capacity, tableOf, rowsOf};
 ghost use Rattle.rules.specs.Sound.{s8?, sound?};
 ghost use Rattle.rules.specs.Calls.{short};
-ghost use Rattle.held.specs.Held.{Within};
+ghost use Rattle.reads.specs.Within.{Within};
 ghost use Rattle.sound.specs.Quick.{bounded, plain, joined, rowFine, evenly, quick?};
 ghost use Rattle.sound.specs.Pass.{Passed, Onward, StepAfter, TellsTo, Tells, upcomingOf};
 ghost use Rattle.sound.specs.Check.{checkOf};
@@ -49,11 +49,11 @@ fn has_parent(words: &[u32], at: RowPlace, known: DocNo) -> bool
     requires { ⌜ Within (now words) (at .0) × (someBelow (at .0) (isDoc (rowsOf (now words)) (known .0)) ≡ true) ⌝ }
     ensures { λ r. ⌜ r ≡ someBelow (at .0) (isDoc (rowsOf (now (words .entry))) (parentAt (rowsOf (now (words .entry))) (at .0))) ⌝ }
 {
-    let up = held::parent(words, at);
+    let up = reads::parent(words, at);
     if up.0 == known.0 {
         return true;
     }
-    match held::find_below(words, at, up) {
+    match reads::find_below(words, at, up) {
         Found::At(_) => true,
         Found::Nothing => false,
     }
@@ -64,7 +64,7 @@ fn is_bounded(words: &[u32], at: RowPlace, top: FrameNo) -> bool
     requires { ⌜ Within (now words) (at .0) ⌝ }
     ensures { λ r. ⌜ r ≡ bounded (rowsOf (now (words .entry))) (top .0) (at .0) ⌝ }
 {
-    (held::frame(words, at).0 < top.0) & (held::shown(words, at) <= 1)
+    (reads::frame(words, at).0 < top.0) & (reads::shown(words, at) <= 1)
 }
 
 // Whether a row that is not the first is so, and its document is above that of the row before.
@@ -72,7 +72,7 @@ fn is_plain(words: &[u32], at: RowPlace, before: DocNo, top: FrameNo) -> bool
     requires { ⌜ Within (now words) (at .0) × (0 < at .0) × (before .0 ≡ docAt (rowsOf (now words)) (at .0 - 1)) ⌝ }
     ensures { λ r. ⌜ r ≡ plain (rowsOf (now (words .entry))) (top .0) (at .0) ⌝ }
 {
-    let rises = before.0 < held::document(words, at).0;
+    let rises = before.0 < reads::document(words, at).0;
     rises & is_bounded(words, at, top)
 }
 
@@ -82,9 +82,9 @@ fn pass_start(words: &[u32]) -> Pass
     ensures { λ r. ⌜ Passed (rowsOf (now (words .entry))) 1 r ⌝ }
 {
     let at = RowPlace(0);
-    let shown = held::shown(words, at) as usize;
-    let high = held::frame(words, at);
-    let known = held::document(words, at);
+    let shown = reads::shown(words, at) as usize;
+    let high = reads::frame(words, at);
+    let known = reads::document(words, at);
     Pass {
         late: false,
         shown,
@@ -124,14 +124,14 @@ fn pass_step(words: &[u32], at: RowPlace, prior: RowPlace, p: Pass) -> Tested
     requires { ⌜ Within (now words) (at .0) × Onward (rowsOf (now words)) (at .0) p × StepAfter (rowsOf (now words)) (at .0) (prior .0) ⌝ }
     ensures { λ r. ⌜ TellsTo (rowsOf (now (words .entry))) (at .0 + 1) (joined (rowsOf (now (words .entry))) (at .0)) r ⌝ }
 {
-    if held::parent(words, at).0 != held::parent(words, prior).0 {
+    if reads::parent(words, at).0 != reads::parent(words, prior).0 {
         return Tested::Fails;
     }
-    let shown = held::shown(words, at);
+    let shown = reads::shown(words, at);
     if p.late {
         return pass_upcoming(shown, p.upcoming, p.begun, p);
     }
-    if held::is_shown(words, prior) {
+    if reads::is_shown(words, prior) {
         return pass_upcoming(shown, at, p.frames, p);
     }
     let high = p.high;
@@ -157,13 +157,13 @@ fn pass_first(words: &[u32], at: RowPlace, p: Pass) -> Tested
     if !has_parent(words, at, p.known) {
         return Tested::Fails;
     }
-    let high = held::higher(p.high, held::frame(words, at));
-    let known = held::parent(words, at);
+    let high = reads::higher(p.high, reads::frame(words, at));
+    let known = reads::parent(words, at);
     let upcoming = p.upcoming;
     let last = p.last;
     Tested::Holds(Pass {
         late: p.late,
-        shown: p.shown + held::shown(words, at) as usize,
+        shown: p.shown + reads::shown(words, at) as usize,
         frames: p.frames + 1,
         high,
         known,
@@ -178,7 +178,7 @@ fn pass_row(words: &[u32], at: RowPlace, p: Pass) -> Tested
     requires { ⌜ Within (now words) (at .0) × Onward (rowsOf (now words)) (at .0) p × (0 < at .0) ⌝ }
     ensures { λ r. ⌜ TellsTo (rowsOf (now (words .entry))) (at .0 + 1) (joined (rowsOf (now (words .entry))) (at .0)) r ⌝ }
 {
-    match held::previous_under(words, at, p.high) {
+    match reads::previous_under(words, at, p.high) {
         Found::At(prior) => pass_step(words, at, prior, p),
         Found::Nothing => pass_first(words, at, p),
     }
@@ -190,7 +190,7 @@ fn is_root(words: &[u32], top: FrameNo) -> bool
     ensures { λ r. ⌜ r ≡ rowFine (rowsOf (now (words .entry))) (top .0) 0 ⌝ }
 {
     let at = RowPlace(0);
-    is_bounded(words, at, top) & (held::parent(words, at).0 == NONE)
+    is_bounded(words, at, top) & (reads::parent(words, at).0 == NONE)
 }
 
 // Whether every row keeps the rules, and as many are shown as there are frames.
@@ -202,7 +202,7 @@ fn rows_pass(words: &[u32], n: usize, top: FrameNo) -> Tested
         return Tested::Fails;
     }
     let mut p = pass_start(words);
-    let mut before = held::document(words, RowPlace(0));
+    let mut before = reads::document(words, RowPlace(0));
     let mut i = 1;
     while i < n {
         if !is_plain(words, RowPlace(i), before, top) {
@@ -211,7 +211,7 @@ fn rows_pass(words: &[u32], n: usize, top: FrameNo) -> Tested
         let Tested::Holds(q) = pass_row(words, RowPlace(i), p) else {
             return Tested::Fails;
         };
-        before = held::document(words, RowPlace(i));
+        before = reads::document(words, RowPlace(i));
         p = q;
         i += 1;
     }
@@ -227,7 +227,7 @@ fn rows_sound(words: &[u32], n: usize) -> Tested
     requires { ⌜ Within (now words) 0 × (n ≡ length (rowsOf (now words))) ⌝ }
     ensures { λ r. ⌜ Tells (rowsOf (now (words .entry))) (quick? (rowsOf (now (words .entry))) (tableOf (now (words .entry)) .nextDoc) (tableOf (now (words .entry)) .nextFrame)) r ⌝ }
 {
-    let last = held::document(words, RowPlace(n - 1)).0 < rows::next_document(words).0;
+    let last = reads::document(words, RowPlace(n - 1)).0 < rows::next_document(words).0;
     if !last {
         return Tested::Fails;
     }

@@ -28,7 +28,7 @@ use Rattle.sound.specs.Survey.{surveyOf, Located}
 use Rattle.sound.specs.declared.Stand.{Stand}
 use Rattle.sound.specs.declared.Survey.{Survey}
 use Rattle.sound.specs.declared.Survey.the-variants.{No}
-use Rattle.sound.proofs.Checks.{survey-given, examined-long, examined-sound, examined-held}
+use Rattle.sound.proofs.Checks.{survey-given, examined-long, examined-sound, examined-fits}
 use Rattle.traverses.specs.declared.Traversed.the-variants.{Changes, Refused}
 use Rattle.traverses.specs.declared.Goal.{Goal}
 use Rattle.traverses.specs.declared.Goal.the-variants.{To, Outside}
@@ -49,7 +49,7 @@ module _ (words : List ℕ) (s : Stand) (h : Located words s) (a b to : ℕ) (fi
   ready-of =
       record {
         long = examined-long words (h .0);
-        held = examined-held words (h .0);
+        fits = examined-fits words (h .0);
         rise = λ i j. rising-all (length (rowsOf words)) (docAt (rowsOf words)) (examined-sound words (h .0) .table .s2 .rise) j i;
         first = first .upto;
         second = second .upto;
@@ -119,7 +119,7 @@ module _ (old : List ℕ) (a b : ℕ) (start : Start old a b) (new : List ℕ) (
   moved-table =
       let r = start .ready in
       let l = r .long in
-      let h = r .held in
+      let h = r .fits in
       ap tableOf e ∙ table-written old (movedTo (tableOf old) b) (omega arith) (omega (arith, at-length (stepsTo (rowsOf old) b) (rowsOf old)))
 
   -- As many rows.
@@ -136,13 +136,13 @@ module _ (old : List ℕ) (a b : ℕ) (start : Start old a b) (new : List ℕ) (
       let n = moved-count in
       let d : docAt (rowsOf new) ≡ docAt rows = ap (λ t. docAt (t .rows)) moved-table ∙ at-doc (stepsTo rows b) rows in
       let s = moved-length in
-      let u = r .held in
+      let u = r .fits in
       let v = r .long in
       let x = r .first in
       let y = r .second in
       record {
         long = omega arith;
-        held = rw s (omega arith);
+        fits = rw s (omega arith);
         rise = λ i j l m. subst (λ doc. doc i < doc j) (sym d) (r .rise i j l (omega arith));
         first = omega arith;
         second = omega arith;

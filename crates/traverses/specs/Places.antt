@@ -8,7 +8,7 @@ use Rattle.rules.specs.Below.{count}
 use Rattle.rules.specs.Rows.{Row, Table, frameAt, isFrame}
 use Rattle.rules.specs.Steps.{isStep, steps}
 use Rattle.laws.proofs.Frames.{shows}
-use Rattle.held.specs.Nexts.{lowestOf}
+use Rattle.reads.specs.Nexts.{lowestOf}
 
 -- The steps before a place.
 abbrev pub stepsTo : List Row → ℕ → ℕ

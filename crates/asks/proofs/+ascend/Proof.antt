@@ -6,16 +6,16 @@ use borrow.Author.Needs.{needs}
 use borrow.Author.Tests.{not-true, not-false}
 use denote.Ref.{now}
 use Rattle.rules.specs.Words.{rowsOf}
-use Rattle.held.proofs.Scans.{found-lower}
+use Rattle.reads.proofs.Scans.{found-lower}
 use Rattle.asks.proofs.Climbs.{hidden-ends, root-ends, climb-goes, lost-ends}
 use borrow.Fn.Kinds.{In}
 use borrow.Fn.PlainCycle.{Measures, is, falls, and}
 use Rattle.asks.proofs.ascend.Reads as ascend
 use Rattle.asks.proofs.ascend.Kinds as ascend-kinds
 use Rattle.asks.proofs.+ascend.Lts-ascend as ascend-lts
-use Rattle.held.proofs.find_below.Reads as find-below-reads
-use Rattle.held.proofs.is_shown.Reads as is-shown-reads
-use Rattle.held.proofs.parent.Reads as parent-reads
+use Rattle.reads.proofs.find_below.Reads as find-below-reads
+use Rattle.reads.proofs.is_shown.Reads as is-shown-reads
+use Rattle.reads.proofs.parent.Reads as parent-reads
 use Rattle.asks.proofs.+ascend.{statement}
 use Rattle.asks.proofs.+ascend.Tie.{close}
 

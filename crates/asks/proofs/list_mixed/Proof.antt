@@ -13,9 +13,9 @@ use Rattle.rules.specs.Steps.{isStep, steps}
 use Rattle.laws.proofs.Loops.{count-none, count-more, count-within}
 use Rattle.laws.proofs.Standing.{steps-most}
 use Rattle.laws.proofs.Writes.{length-put}
-use Rattle.held.specs.Under.{Under}
-use Rattle.held.proofs.Scans.{under-more, steps-fit}
-use Rattle.sound.proofs.Checks.{examined-sound, examined-held}
+use Rattle.reads.specs.Under.{Under}
+use Rattle.reads.proofs.Scans.{under-more, steps-fit}
+use Rattle.sound.proofs.Checks.{examined-sound, examined-fits}
 use Rattle.asks.specs.Listing.{TakensTo, UpcomingsTo}
 use Rattle.asks.proofs.Listing.{lists-none, takens-more, upcomings-more, begun-later, begun-not-yet, begun-here}
 use Rattle.asks.proofs.list_mixed.Statement.{statement}
@@ -51,18 +51,18 @@ list-mixed-spec =
     let none = lists-none (rowsOf (now (c5 .args .words))) (t .s6) (t .s7) (now (c5 .args .taken)) (now (c5 .args .upcoming)) in
     (omega arith, count-none _, omega arith, omega arith, omega (arith, c .before .row-count .ensures, ap (λ s. s .steps) (c5 .pre .1), steps-most (rowsOf (now (c5 .args .words)))), λ k l. absurd (omega arith), none .0, none .1, λ k q t. absurd (omega arith)))
     (λ c. search needs)
-    (λ c κs. let h = examined-held _ (c .before .before .before .before .before .before .before .pre .0) in
-    (record { held = h; below = more c }, c .before .loop .inv .5))
-    (λ c κs. let h = examined-held _ (c .before .before .before .before .before .before .before .before .pre .0) in record { held = h; below = more (c .before) })
+    (λ c κs. let h = examined-fits _ (c .before .before .before .before .before .before .before .pre .0) in
+    (record { fits = h; below = more c }, c .before .loop .inv .5))
+    (λ c κs. let h = examined-fits _ (c .before .before .before .before .before .before .before .before .pre .0) in record { fits = h; below = more (c .before) })
     (λ c κs. search needs)
-    (λ c κs. let h = examined-held _ (c .before .before .before .before .before .before .before .before .before .before .before .before .before .before .before .before .pre .0) in record { held = h; below = more (c .before .before .before .before .before .before .before .before .before) })
+    (λ c κs. let h = examined-fits _ (c .before .before .before .before .before .before .before .before .before .before .before .before .before .before .before .before .pre .0) in record { fits = h; below = more (c .before .before .before .before .before .before .before .before .before) })
     (λ c κs. search needs)
     (λ c. search needs)
     (λ c. let c10 = c .before .before .before .before .before .before .before .before .before .before in
     let c12 = c10 .before .before in
     let c18 = c12 .before .before .before .before .before .before in
-    let h = examined-held _ (c18 .pre .0) in steps-fit (now (c18 .args .words)) _ _ (c10 .is-step .result) (c12 .loop .inv .2) (record { held = h; below = more (c10 .before) }))
-    (λ c. let h = examined-held _ (c .before .before .before .before .before .before .before .before .before .before .before .before .before .before .before .before .before .before .pre .0) in
+    let h = examined-fits _ (c18 .pre .0) in steps-fit (now (c18 .args .words)) _ _ (c10 .is-step .result) (c12 .loop .inv .2) (record { fits = h; below = more (c10 .before) }))
+    (λ c. let h = examined-fits _ (c .before .before .before .before .before .before .before .before .before .before .before .before .before .before .before .before .before .before .pre .0) in
     let l = more (c .before .before .before .before .before .before .before .before .before .before .before) in search needs)
     (λ c. let l = more (c .before .before .before .before .before .before .before .before .before .before .before) in omega arith)
     (λ c. let c6 = c .before .before .before .before .before .before in

@@ -8,7 +8,7 @@ use borrow.Author.Needs.{needs}
 use denote.Ref.{now}
 use Rattle.rules.specs.Words.{rowsOf}
 use Rattle.laws.proofs.Standing.{upto-start}
-use Rattle.sound.proofs.Checks.{examined-sound, examined-held}
+use Rattle.sound.proofs.Checks.{examined-sound, examined-fits}
 use Rattle.asks.specs.Listing.{TakensTo}
 use Rattle.asks.proofs.Listing.{taken-room, taken-on, takens-done}
 use Rattle.asks.proofs.list_taken.Statement.{statement}
@@ -44,9 +44,9 @@ list-taken-spec =
     (λ c. let c2 = c .before .before in
     (omega arith, c2 .pre .1 .upto, refl, λ old h. h))
     (λ c κs. let c4 = c .before .before .before .before in
-    let h = examined-held _ (c4 .pre .0 .0) in
+    let h = examined-fits _ (c4 .pre .0 .0) in
     let t = examined-sound _ (c4 .pre .0 .0) .table in
-    record { held = h; below = omega (arith, ap (λ s. s .upcoming .0) (c4 .pre .0 .1), upto-start (rowsOf (now (c4 .args .words))) (t .s6) (t .s7)) })
+    record { fits = h; below = omega (arith, ap (λ s. s .upcoming .0) (c4 .pre .0 .1), upto-start (rowsOf (now (c4 .args .words))) (t .s6) (t .s7)) })
     (λ c. omega arith)
     (λ c. omega arith)
     (λ c. let l = room c in search needs)

@@ -10,7 +10,7 @@ use Rattle.rules.specs.Steps.{position, steps}
 use Rattle.rules.specs.Words.{rowsOf}
 use Rattle.laws.proofs.Central.{position-steps}
 use Rattle.laws.proofs.Standing.{upto-start, steps-most}
-use Rattle.sound.proofs.Checks.{examined-sound, examined-held}
+use Rattle.sound.proofs.Checks.{examined-sound, examined-fits}
 use Rattle.asks.specs.Listing.{UpcomingsTo}
 use Rattle.asks.proofs.Listing.{first-room, upcoming-from, upcoming-on, upcomings-done}
 use Rattle.asks.proofs.list_upcoming.Statement.{statement}
@@ -56,7 +56,7 @@ list-upcoming-spec =
     (λ c. let c4 = c .before .before .before .before in
     omega (arith, c .before .row-count .ensures, ap (λ s. s .steps) (c4 .pre .0 .1), steps-most (rowsOf (now (c4 .args .words)))))
     (λ c. let c5 = c .before .before .before .before .before in
-    let h = examined-held _ (c5 .pre .0 .0) in
+    let h = examined-fits _ (c5 .pre .0 .0) in
     let p = ap (λ s. s .position) (c5 .pre .0 .1) in
     let q = position-steps (rowsOf (now (c5 .args .words))) in
     let r = steps-most (rowsOf (now (c5 .args .words))) in search needs)
@@ -66,7 +66,7 @@ list-upcoming-spec =
     let r = c .before .before .before .row-count .ensures in
     (r, omega arith, omega (arith, c .later .ensures, ap (λ s. s .upcoming .0) (c6 .pre .0 .1), c6 .pre .1 .upto, upto-start (rowsOf (now (c6 .args .words))) (t .s6) (t .s7)), refl, λ old h. h))
     (λ c κs. let c8 = c .before .before .before .before .before .before .before .before in
-    let h = examined-held _ (c8 .pre .0 .0) in search needs)
+    let h = examined-fits _ (c8 .pre .0 .0) in search needs)
     (λ c. room c .0)
     (λ c. let l = room c .1 in search needs)
     (λ c. room c .1)

@@ -14,13 +14,13 @@ next-row-spec =
     (λ c κs. search needs)
     (λ c κs. let c1 = c .before in
     let c3 = c1 .before .before in
-    let h = c3 .pre .ready .held in let p = row-places _ _ _ (c3 .pre) _ (c1 .next-change .ensures) in let i = p .0 in let j = p .1 in search needs)
+    let h = c3 .pre .ready .fits in let p = row-places _ _ _ (c3 .pre) _ (c1 .next-change .ensures) in let i = p .0 in let j = p .1 in search needs)
     (λ c κs. let c2 = c .before .before in
     let c4 = c2 .before .before in
-    let h = c4 .pre .ready .held in let p = row-places _ _ _ (c4 .pre) _ (c2 .next-change .ensures) in let i = p .0 in let j = p .1 in search needs)
+    let h = c4 .pre .ready .fits in let p = row-places _ _ _ (c4 .pre) _ (c2 .next-change .ensures) in let i = p .0 in let j = p .1 in search needs)
     (λ c κs. let c3 = c .before .before .before in
     let c5 = c3 .before .before in
-    let h = c5 .pre .ready .held in let p = row-places _ _ _ (c5 .pre) _ (c3 .next-change .ensures) in let i = p .0 in let j = p .1 in search needs)
+    let h = c5 .pre .ready .fits in let p = row-places _ _ _ (c5 .pre) _ (c3 .next-change .ensures) in let i = p .0 in let j = p .1 in search needs)
     (λ c. search needs)
     (λ c. let c1 = c .before in
     let c2 = c1 .before in
@@ -28,4 +28,4 @@ next-row-spec =
     let c5 = c4 .before in
     let c6 = c5 .before in
     let e = row-found _ _ _ (c6 .pre) _ (c4 .next-change .ensures) in
-    row-follows (now (c6 .args .words)) _ _ (c6 .pre) _ (c4 .next-change .ensures) _ _ _ (c2 .document .ensures) (c1 .document2 .ensures) (climbed _ _ _ (c6 .pre .ready .held) (c .climb .ensures)) (omega (arith, c5 .shared-slice-known .given 2, next-frame-in (now (c6 .args .words))))))
+    row-follows (now (c6 .args .words)) _ _ (c6 .pre) _ (c4 .next-change .ensures) _ _ _ (c2 .document .ensures) (c1 .document2 .ensures) (climbed _ _ _ (c6 .pre .ready .fits) (c .climb .ensures)) (omega (arith, c5 .shared-slice-known .given 2, next-frame-in (now (c6 .args .words))))))

@@ -2,7 +2,7 @@
 use borrow.Author.Needs.{needs}
 use denote.Ref.{now}
 use Rattle.rules.specs.Words.{rowsOf}
-use Rattle.held.proofs.Scans.{found-own, some-found, none-found}
+use Rattle.reads.proofs.Scans.{found-own, some-found, none-found}
 use Rattle.navigates.proofs.frame_before.Statement.{statement}
 use Rattle.navigates.proofs.frame_before.Tie as tie
 

@@ -2,7 +2,7 @@
 use mathlib.Core.Path.{ap}
 use borrow.Author.Needs.{needs}
 use denote.Ref.{now}
-use Rattle.sound.proofs.Checks.{examined-held}
+use Rattle.sound.proofs.Checks.{examined-fits}
 use Rattle.navigates.proofs.Judges.{room-left-over, full-counted}
 use Rattle.navigates.proofs.is_full.Statement.{statement}
 use Rattle.navigates.proofs.is_full.Tie as tie
@@ -20,4 +20,4 @@ is-full-spec =
     let c2 = c1 .before in
     let c3 = c2 .before in
     let c5 = c3 .before .before in
-    full-counted (now (c5 .args .words)) _ _ _ _ (c3 .row-count .ensures) (c2 .capacity .ensures) (examined-held _ (c5 .pre .0)) (c1 .if1 .left) (ap (λ s. s .position) (c5 .pre .1)) (ap (λ s. s .steps) (c5 .pre .1))))
+    full-counted (now (c5 .args .words)) _ _ _ _ (c3 .row-count .ensures) (c2 .capacity .ensures) (examined-fits _ (c5 .pre .0)) (c1 .if1 .left) (ap (λ s. s .position) (c5 .pre .1)) (ap (λ s. s .steps) (c5 .pre .1))))

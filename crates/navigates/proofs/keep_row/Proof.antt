@@ -2,7 +2,7 @@
 use borrow.Author.Needs.{needs}
 use denote.Ref.{now}
 use borrow.Author.Tests.{not-true, not-false}
-use Rattle.rows.proofs.Holds.{row-within}
+use Rattle.rows.proofs.Readable.{row-within}
 use Rattle.navigates.proofs.Turns.{row-goes, row-moves}
 use Rattle.navigates.proofs.keep_row.Statement.{statement}
 use Rattle.navigates.proofs.keep_row.Tie as tie

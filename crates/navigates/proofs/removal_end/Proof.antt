@@ -6,7 +6,7 @@ use denote.Ref.{now}
 use Rattle.rules.specs.Words.{rowsOf}
 use Rattle.laws.proofs.Central.{position-steps}
 use Rattle.laws.proofs.Standing.{steps-most}
-use Rattle.sound.proofs.Checks.{examined-held}
+use Rattle.sound.proofs.Checks.{examined-fits}
 use Rattle.navigates.proofs.Packed.{ends-early, ends-last}
 use Rattle.navigates.proofs.removal_end.Statement.{statement}
 use Rattle.navigates.proofs.removal_end.Tie as tie
@@ -18,7 +18,7 @@ removal-end-spec =
     (λ c. let c3 = c .before .before .before in
     omega (arith, c .before .row-count .ensures, ap (λ s. s .steps) (c3 .pre .1), steps-most (rowsOf (now (c3 .args .words)))))
     (λ c. let c4 = c .before .before .before .before in
-    let h = examined-held _ (c4 .pre .0) in
+    let h = examined-fits _ (c4 .pre .0) in
     let p = ap (λ s. s .position) (c4 .pre .1) in
     let q = position-steps (rowsOf (now (c4 .args .words))) in
     let r = steps-most (rowsOf (now (c4 .args .words))) in search needs)

@@ -1,7 +1,7 @@
 -- `navigates::settle` meets its contract. Assumes nothing.
 use borrow.Author.Needs.{needs}
 use denote.Ref.{now}
-use Rattle.rows.proofs.Holds.{row-within}
+use Rattle.rows.proofs.Readable.{row-within}
 use Rattle.navigates.proofs.Turns.{settles}
 use Rattle.navigates.proofs.settle.Statement.{statement}
 use Rattle.navigates.proofs.settle.Tie as tie

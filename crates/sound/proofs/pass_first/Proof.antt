@@ -5,7 +5,7 @@ use borrow.Author.Tests.{not-true, not-false}
 use borrow.Author.Needs.{needs}
 use denote.Ref.{now}
 use Rattle.rules.specs.Words.{rowsOf}
-use Rattle.held.proofs.Scans.{steps-fit}
+use Rattle.reads.proofs.Scans.{steps-fit}
 use Rattle.sound.proofs.Passes.{first-lost, first-found}
 use Rattle.sound.proofs.pass_first.Statement.{statement}
 use Rattle.sound.proofs.pass_first.Tie as tie

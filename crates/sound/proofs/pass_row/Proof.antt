@@ -3,7 +3,7 @@ use borrow.Author.Needs.{needs}
 use mathlib.Core.Path.{sym}
 use denote.Ref.{now}
 use Rattle.rules.specs.Words.{rowsOf}
-use Rattle.held.proofs.Scans.{first-found}
+use Rattle.reads.proofs.Scans.{first-found}
 use Rattle.sound.proofs.Passes.{step-after}
 use Rattle.sound.proofs.pass_row.Statement.{statement}
 use Rattle.sound.proofs.pass_row.Tie as tie

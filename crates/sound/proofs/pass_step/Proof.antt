@@ -3,7 +3,7 @@ use mathlib.Core.Path.{refl}
 use borrow.Author.Needs.{needs}
 use denote.Ref.{now}
 use Rattle.rules.specs.Words.{rowsOf}
-use Rattle.held.proofs.Scans.{steps-fit}
+use Rattle.reads.proofs.Scans.{steps-fit}
 use Rattle.sound.proofs.Passes.{prior-within, step-unlinked, step-late, step-turns, step-taken}
 use Rattle.sound.proofs.pass_step.Statement.{statement}
 use Rattle.sound.proofs.pass_step.Tie as tie

@@ -50,7 +50,7 @@ rows-pass-spec =
     (λ c κs. let c1 = c .before in
     let c3 = c1 .before .before in
     let c9 = c3 .before .before .before .before .before .before in
-    (record { held = c9 .pre .0 .held; below = omega (arith, c9 .pre .1) }, pass-goes (rowsOf (now (c9 .args .words))) _ _ _ (omega arith) (c9 .pre .1) _ (c1 .is-plain .ensures) _ (c3 .loop .inv .2) (c3 .loop .inv .4) (not-false _ (c .if2 .left)), omega arith))
+    (record { fits = c9 .pre .0 .fits; below = omega (arith, c9 .pre .1) }, pass-goes (rowsOf (now (c9 .args .words))) _ _ _ (omega arith) (c9 .pre .1) _ (c1 .is-plain .ensures) _ (c3 .loop .inv .2) (c3 .loop .inv .4) (not-false _ (c .if2 .left)), omega arith))
     (λ c. search needs)
     (λ c. search needs)
     (λ c. let c2 = c .before .before in
@@ -58,7 +58,7 @@ rows-pass-spec =
     let c12 = c4 .before .before .before .before .before .before .before .before in
     pass-breaks (rowsOf (now (c12 .args .words))) _ _ _ (omega arith) (c12 .pre .1) _ (c4 .is-plain .ensures) (told-fails _ _ _ _ (c2 .pass-row .ensures) (c .enum-told .given .1)))
     (λ c κs. let c13 = c .before .before .before .before .before .before .before .before .before .before .before .before .before in
-    record { held = c13 .pre .0 .held; below = omega (arith, c13 .pre .1) })
+    record { fits = c13 .pre .0 .fits; below = omega (arith, c13 .pre .1) })
     (λ c. let c8 = c .before .before .before .before .before .before .before .before in
     let f : Fits w64 (c8 .loop .i + 1) = record { fits = omega arith } in f)
     (λ c. search needs)

@@ -1,4 +1,0 @@
-pub mod Held
-pub mod Found
-pub mod Under
-pub mod Nexts

@@ -1,0 +1,4 @@
+pub mod Within
+pub mod Found
+pub mod Under
+pub mod Nexts
