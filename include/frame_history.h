@@ -5,12 +5,12 @@
 
    A lent run is a pointer and then a count of elements (not of bytes). The library keeps no pointer after a call returns and allocates nothing.
    Pointers are aligned for their type and not null, even where the count is 0. Runs and out words of one call must not overlap,
-   except that two runs that are both only read may. Calls on different records may run at the same time; calls that write
-   the same record may not.
+   except that two runs that are both only read may. Calls on different records may run at the same time, and so may calls that only
+   read the same record (`const uint32_t *words`); no other call on a record may run beside one that writes it.
 
    How much to lend:
-     a record of C rows has 3 + 4C words; C is (words - 3) / 4 rounded down, at least 1 and at most 512. Words past 3 + 4C are neither
-       read nor written. A row is one document, so C is how many documents the window can hold at a time;
+     a record has 7 words or more; its room for C rows is (words - 3) / 4 rounded down, so C is at least 1, and at most 512. Words
+       past 3 + 4C are neither read nor written. A row is one document, so C is how many documents the window can hold at a time;
      change rows: four words, or one struct, a frame are always enough;
      lists: C words in each run are always enough, and so are as many as there are steps;
      outline: two words a row are always enough;
