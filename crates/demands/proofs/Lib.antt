@@ -1,8 +1,7 @@
--- What the customer buys, as theorems over the definitions of `rules`. The ends of the lines of thought: `p1-to-p12`, `determined`, `standing`,
+-- What the customer buys, as theorems over the definitions of `rules`. The ends of the lines of thought: `p1-to-p12`, `standing`,
 -- `demand1`, `demand2`, `noted` and `demand3`, `traverse-traverse`, and of the readings that look right `back-does-not-restore`,
 -- `back-restores-visible`, `own-future-not-enough`.
 pub mod Examples
-pub mod Determined
 pub mod Demand1
 pub mod Accepted
 pub mod Lasting
