@@ -1,4 +1,4 @@
--- What the customer buys, as theorems over the definitions of `rules`. The ends of the lines of thought: `p1-to-p12`, `standing`,
+-- What the customer buys, as theorems over the definitions of `rules`. The ends of the lines of thought: `p1-to-p12`, `standing`, `past-spared`,
 -- `demand1`, `demand2`, `noted` and `demand3`, `traverse-traverse`, and of the readings that look right `back-does-not-restore`,
 -- `back-restores-visible`, `own-future-not-enough`.
 pub mod Examples
@@ -7,6 +7,7 @@ pub mod Accepted
 pub mod Lasting
 pub mod Wide
 pub mod Standing
+pub mod Past
 pub mod Seen
 pub mod Steady
 pub mod Demand3

@@ -14,7 +14,7 @@ use Rattle.rules.specs.Steps.{same, isStep, upcoming, position, steps, visibleA
 use Rattle.rules.specs.Moves.{opened, without, cleared, hide, navigated, show, forward}
 use Rattle.laws.proofs.Tests.{off, count-yes, count-same, count-in}
 use Rattle.laws.proofs.Frames.{step-in, step-out, next-shows, next-due}
-use Rattle.laws.proofs.Flags.{flags-eq}
+use Rattle.laws.proofs.Flags.{flags-length, flags-eq}
 use Rattle.laws.proofs.Central.{flagsAt, central, at-S6, at-S7, position-steps, only-shown, show-at, forward-at}
 use Rattle.laws.proofs.Append.{step-agree, length-snoc, snoc-old, snoc-new, flags-append, append-at}
 use Rattle.laws.proofs.Kept.{kept-row, kept-length}
@@ -25,6 +25,15 @@ use Rattle.laws.proofs.Removal.{SoundRows, stays, cleared-removed, clea
 pub tree-at : (p : ℕ) (rows : List Row) {a b : ℕ} → TreeOf rows a b → TreeOf (flagsAt p rows) a b
 unfolding flagsAt
 tree-at p rows t = tree-flags _ rows t
+
+-- Opening adds a row, and navigating one to those that the clearing leaves.
+pub opened-length : (t : Table) (p : ℕ) → length (opened t p .rows) ≡ suc (length (t .rows))
+unfolding opened
+opened-length t p = length-snoc (t .rows) _
+
+pub navigated-length : (t : Table) (d : ℕ) → length (navigated t d .rows) ≡ suc (length (cleared (t .rows)))
+unfolding navigated hide
+navigated-length t d = length-snoc (hide d (cleared (t .rows))) _ ∙ ap suc (flags-length _ (cleared (t .rows)))
 
 -- Rows at any position are as sound as they were.
 pub sound-at : (p : ℕ) (rows : List Row) {a b : ℕ} → TreeOf rows a b → SoundRows (flagsAt p rows) a b

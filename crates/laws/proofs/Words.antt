@@ -4,15 +4,15 @@ use mathlib.Core.List.{List, [], _∷_, _++_, flatMap}
 use mathlib.Core.Path.{_≡_, refl, sym, ap, subst, _∙_}
 use native.Mathlib.Nat.{not-suc-le-zero}
 use native.Mathlib.Omega.{arith}
-use lib.ListN.{length, getD, replicate, length-append, length-replicate, getD-replicate, List·getD-append}
-use lib.Seq.{getD-append-add}
+use lib.ListN.{length, getD, drop, replicate, length-append, length-replicate, getD-replicate, List·getD-append}
+use lib.Seq.{getD-append-add, sets-eq}
 use borrow.Author.Needs.{needs}
 use Rattle.rules.specs.Below.{tab}
 use Rattle.rules.specs.Rows.{Row, Table, noRow, rowAt, docAt, frameAt, parentAt, shownAt}
 use Rattle.rules.specs.Words.{put, capacity, rowIn, tableOf, rowsOf, rowWords, wordsOf, written}
 use Rattle.rules.specs.Sound.{S8, SoundTable, Sound}
 use Rattle.laws.proofs.Tests.{by-lt, length-tab, tab-at, tab-is}
-use Rattle.laws.proofs.Writes.{length-put, get-put-in, put-over, put-same}
+use Rattle.laws.proofs.Writes.{length-put, put-over, put-same}
 
 module _ (words : List ℕ) where
   pub rows-length : length (rowsOf words) ≡ getD words 0 0
@@ -110,12 +110,18 @@ capacity-written words t = rw length-written
 -- THERE AND BACK
 
 module _ (words : List ℕ) (t : Table) (long : 3 ≤ length words) (fits : length (t .rows) ≤ capacity words) where
-  written-at : (k : ℕ) → k < 3 + 4 * capacity words → getD (written words t) k 0 ≡ getD (wordsOf (capacity words) t) k 0
-  unfolding written
-  written-at k l =
-      let e : 0 + k ≡ k = omega arith in
+  -- The table's words up to 3 + 4C, and then what was there.
+  pub written-is : written words t ≡ wordsOf (capacity words) t ++ drop (3 + 4 * capacity words) words
+  unfolding written put
+  written-is =
       let n = length-wordsOf (capacity words) t fits in
-      rw e at (get-put-in words (wordsOf (capacity words) t) 0 k (omega arith) (omega arith))
+      let e : 0 + length (wordsOf (capacity words) t) ≡ 3 + 4 * capacity words = omega arith in
+      sets-eq (wordsOf (capacity words) t) words 0 (omega arith) ∙ ap (λ k. wordsOf (capacity words) t ++ drop k words) e
+
+  written-at : (k : ℕ) → k < 3 + 4 * capacity words → getD (written words t) k 0 ≡ getD (wordsOf (capacity words) t) k 0
+  written-at k l =
+      let n = length-wordsOf (capacity words) t fits in
+      ap (λ w. getD w k 0) written-is ∙ List·getD-append (wordsOf (capacity words) t) _ 0 k (omega arith)
 
   row-written : (i : ℕ) → i < length (t .rows) → rowIn (written words t) i ≡ rowAt (t .rows) i
   row-written i l =
