@@ -8,6 +8,7 @@ pub mod Accepted
 pub mod Lasting
 pub mod Wide
 pub mod Standing
+pub mod Saving
 pub mod Seen
 pub mod Steady
 pub mod Demand3
@@ -22,4 +23,3 @@ pub mod Navigates
 pub mod Demand2
 pub mod Readings
 pub mod Return
-pub mod Saving

@@ -2,6 +2,7 @@
 pub mod Record
 pub mod Standing
 pub mod Refuses
+pub mod Saving
 pub mod Model
 pub mod Follows
 pub mod Note
