@@ -3,7 +3,7 @@ use Prim.Native.Nat.{ℕ, _+_, _≤_}
 use mathlib.Core.Bool.{not, So}
 use mathlib.Core.List.{List, [], _∷_}
 use mathlib.Core.Logic.{_↔_, inl, inr, ⊎-elim}
-use mathlib.Core.Path.{_≡_, refl, sym, ap, subst, _∙_}
+use mathlib.Core.Path.{_≡_, refl, sym, ap, ap₂, subst, _∙_}
 use native.Mathlib.Omega.{arith}
 use lib.ListN.{length, getD, take, drop}
 use lib.Seq.{sets-eq, take-at}
@@ -67,23 +67,22 @@ module _ (words bytes : List ℕ) where
 
 -- THERE AND BACK
 
+-- Bytes written into a run are its first.
 take-put : (bytes room : List ℕ) → length bytes ≤ length room → take (length bytes) (put room 0 bytes) ≡ bytes
 unfolding put
 take-put bytes room l = ap (take (length bytes)) (sets-eq bytes room 0 (omega arith)) ∙ take-at bytes (drop (0 + length bytes) room) (length bytes) refl
 
--- The bytes that Save writes are those of the table.
+-- The bytes that Save writes are those of a sound table.
 written-bytes : (words room bytes : List ℕ) → Writes words room bytes → Sound words × (bytes ≡ saved (tableOf words))
 written-bytes words room bytes e =
     let s = save-out words room (length bytes ∷ [], ap (λ o. o .answer) e) in
     let both = sym e ∙ save-in words room s in
-    let n : length bytes ≡ length (saved (tableOf words)) = ap (λ o. getD (given (o .answer)) 0 0) both in
-    (s .sound, sym (take-put bytes room (rw n (s .fits))) ∙ rw n (ap (λ o. take (length (saved (tableOf words))) (getD (o .lent) 0 [])) both) ∙ take-put (saved (tableOf words)) room (s .fits))
-  where
-    given : Answer → List ℕ
-    given (Answer.refuses k) = []
-    given (Answer.gives values) = values
+    let answers : Answer.gives (length bytes ∷ []) ≡ Answer.gives (length (saved (tableOf words)) ∷ []) = ap (λ o. o .answer) both in
+    let n : length bytes ≡ length (saved (tableOf words)) = cc in
+    let runs : put room 0 bytes ≡ put room 0 (saved (tableOf words)) = ap (λ o. getD (o .lent) 0 []) both in
+    (s .sound, sym (take-put bytes room (rw n (s .fits))) ∙ ap₂ take n runs ∙ take-put (saved (tableOf words)) room (s .fits))
 
--- Load of what Save wrote, into any record with room for its rows, whatever it held: written with the same table.
+-- Load of what Save wrote, into any record with room for the rows, writes the same table.
 load-writes : (words room bytes other : List ℕ) → Writes words room bytes → length (rowsOf words) ≤ capacity other →
     outcome (Call.Load other bytes) ≡ (length (rowsOf words) ∷ [] leaving written other (tableOf words) ∷ [])
 load-writes words room bytes other e fits =
@@ -91,16 +90,23 @@ load-writes words room bytes other e fits =
     let t = s .0 .table in
     let back : loaded bytes ≡ tableOf words = ap loaded (s .1) ∙ loaded-saved (tableOf words) t in
     let from : So (fromSave? bytes) = rw (s .1) (from-save-in (tableOf words) (in-room 512 t (omega (arith, t .s1 .fits)))) in
-    load-in other bytes (record { seven = omega (arith, t .s1 .some); from = from; fits = rw back fits })
-    ∙ ap (λ u. length (u .rows) ∷ [] leaving written other u ∷ []) back
+    subst (λ u. outcome (Call.Load other bytes) ≡ (length (u .rows) ∷ [] leaving written other u ∷ [])) back
+    (load-in other bytes (record { seven = omega (arith, t .s1 .some); from = from; fits = rw back fits }))
 
--- The same table again.
-pub load-save : (words room bytes other : List ℕ) → Writes words room bytes → length (rowsOf words) ≤ capacity other →
-    Accepted (Call.Load other bytes) × (tableOf (left (Call.Load other bytes)) ≡ tableOf words)
-load-save words room bytes other e fits =
-    let o = load-writes words room bytes other e fits in
-    let some = written-bytes words room bytes e .0 .table .s1 .some in
-    ((length (rowsOf words) ∷ [], ap (λ o. o .answer) o), ap (λ o. tableOf (getD (o .lent) 0 [])) o ∙ table-written other (tableOf words) (omega arith) fits)
+-- What Load leaves is a sound record, and the bytes are its own.
+load-leaves : (words bytes : List ℕ) → Accepted (Call.Load words bytes) → Sound (left (Call.Load words bytes)) × (saved (tableOf (left (Call.Load words bytes))) ≡ bytes)
+load-leaves words bytes a =
+    let l = load-out words bytes a in
+    let s = from-save-is bytes .0 (l .from) in
+    let three : 3 ≤ length words = omega (arith, l .seven) in
+    subst (λ w. Sound w × (saved (tableOf w) ≡ bytes)) (sym (ap (λ o. getD (o .lent) 0 []) (load-in words bytes l)))
+    (written-sound words (loaded bytes) three (in-room _ (s .0) (l .fits)), ap saved (table-written words (loaded bytes) three (l .fits)) ∙ s .1)
+
+-- Save writes them again into a run with room.
+save-left : (words bytes : List ℕ) → Accepted (Call.Load words bytes) → (room : List ℕ) → length bytes ≤ length room → Writes (left (Call.Load words bytes)) room bytes
+save-left words bytes a room fits =
+    let r = load-leaves words bytes a in
+    subst (Writes _ room) (r .1) (save-in _ room (record { sound = r .0; fits = rw (r .1) fits }))
 
 -- A table written after moves is the table written before: moves keep the length and what stands past the rows.
 module _ (t : Table) where
@@ -123,41 +129,25 @@ module _ (t : Table) where
       let b = after-moves moves (after words m) (words-kept words wide s m) (sound-kept words wide s m) (rw (a .0) fits) in
       (b .0 ∙ a .0, b .1 ∙ a .1)
 
--- Load into the record that was saved, whatever moves came between: each word as it was.
-pub load-back : (words room bytes : List ℕ) (moves : List Move) → Words32 words → Writes words room bytes → left (Call.Load (run words moves) bytes) ≡ words
-load-back words room bytes moves wide e =
-    let s = written-bytes words room bytes e .0 in
-    let fits = s .table .s1 .fits in
-    let a = after-moves (tableOf words) moves words wide s fits in
-    ap (λ o. getD (o .lent) 0 []) (load-writes words room bytes (run words moves) e (rw (a .0) fits)) ∙ a .1 ∙ written-table words s
-
--- Save of what Load made: the bytes again.
-pub save-load : (words bytes room : List ℕ) → Accepted (Call.Load words bytes) → length bytes ≤ length room → Writes (left (Call.Load words bytes)) room bytes
-save-load words bytes room a fits =
-    let l = load-out words bytes a in
-    let s = from-save-is bytes .0 (l .from) in
-    let w = written words (loaded bytes) in
-    let t : saved (tableOf w) ≡ bytes = ap saved (table-written words (loaded bytes) (omega (arith, l .seven)) (l .fits)) ∙ s .1 in
-    let sound = written-sound words (loaded bytes) (omega (arith, l .seven)) (in-room (capacity words) (s .0) (l .fits)) in
-    let ok : Saves w room = record { sound = sound; fits = rw t fits } in
-    subst (λ v. Writes v room bytes) (sym (ap (λ o. getD (o .lent) 0 []) (load-in words bytes l))) (subst (Writes w room) t (save-in w room ok))
-
--- Only bytes that saving writes: refusal 3, of a record that is not under 7 words.
-refuses-others : (words bytes : List ℕ) → 7 ≤ length words → (outcome (Call.Load words bytes) .answer ≡ Answer.refuses 3) ↔ NotSaved bytes
-unfolding lines HoldsIn
-refuses-others words bytes seven =
-    let exact = demand1 (Call.Load words bytes) .exactly 3 in (
-      λ e. ⊎-elim (λ x. omega (arith, x .1)) (⊎-elim (λ x. x .1) (⊎-elim (λ x. omega (arith, x .0)) (λ x. absurd x))) (exact .0 e .0),
-      λ n. exact .1 (inr (inl (refl, n)), λ j less. ⊎-elim (λ x. omega (arith, x .1)) (⊎-elim (λ x. omega (arith, x .0)) (⊎-elim (λ x. omega (arith, x .0)) (λ x. x)))),
-    )
-
 -- "Saving and loading undo each other, and loading accepts only bytes that saving writes."
 pub undo-each-other : UndoEachOther
+unfolding lines HoldsIn
 undo-each-other =
     record {
-      load-save = load-save;
-      load-back = load-back;
-      save-load = save-load;
-      accepts-only = λ words bytes wide b a. (left (Call.Load words bytes), bytes, standing .load words bytes wide b a, save-load words bytes bytes a (omega arith));
-      refuses-others = refuses-others;
+      load-save = λ words room bytes other e fits.
+          let o = load-writes words room bytes other e fits in
+          let some = written-bytes words room bytes e .0 .table .s1 .some in
+          ((_, ap (λ o. o .answer) o), ap (λ o. tableOf (getD (o .lent) 0 [])) o ∙ table-written other (tableOf words) (omega arith) fits);
+      load-back = λ words room bytes moves wide e.
+          let s = written-bytes words room bytes e .0 in
+          let fits = s .table .s1 .fits in
+          let a = after-moves (tableOf words) moves words wide s fits in
+          ap (λ o. getD (o .lent) 0 []) (load-writes words room bytes (run words moves) e (rw (a .0) fits)) ∙ a .1 ∙ written-table words s;
+      save-load = λ words bytes room a fits. save-left words bytes a room fits;
+      accepts-only = λ words bytes wide b a. (left (Call.Load words bytes), bytes, standing .load words bytes wide b a, save-left words bytes a bytes (omega arith));
+      refuses-others = λ words bytes seven.
+          let exact = demand1 (Call.Load words bytes) .exactly 3 in (
+            λ e. ⊎-elim (λ x. omega (arith, x .1)) (⊎-elim (λ x. x .1) (⊎-elim (λ x. omega (arith, x .0)) (λ x. absurd x))) (exact .0 e .0),
+            λ n. exact .1 (inr (inl (refl, n)), λ j less. ⊎-elim (λ x. omega (arith, x .1)) (⊎-elim (λ x. omega (arith, x .0)) (⊎-elim (λ x. omega (arith, x .0)) (λ x. x)))),
+          );
     }
