@@ -3,6 +3,7 @@ pub mod Record
 pub mod Standing
 pub mod Past
 pub mod Refuses
+pub mod Saving
 pub mod Model
 pub mod Follows
 pub mod Note
