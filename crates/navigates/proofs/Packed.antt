@@ -25,6 +25,8 @@ use Rattle.laws.proofs.Writes.{length-put, put-put, put-same, get-put-in, get-p
 use Rattle.reads.specs.Within.{Within}
 use Rattle.reads.proofs.Nexts.{Earliest, earliest-out}
 use Rattle.sound.specs.Check.{Examined}
+use Rattle.sound.specs.Survey.{standOf}
+use Rattle.sound.specs.declared.Stand.{Stand}
 use Rattle.sound.proofs.Checks.{examined-sound, examined-fits}
 use Rattle.navigates.specs.Packing.{joins, removalEnd, Ends, Moved}
 use Rattle.navigates.proofs.Judges.{cleared-length}
@@ -99,14 +101,14 @@ over-same old fits rs few h =
 
 -- WHERE THE LOOP MAY END
 
-module _ (rows : List Row) (n s p u : ℕ) (all : n ≡ length rows) (se : s ≡ steps rows) (pe : p ≡ position rows) (ue : u ≡ earliest (upcoming rows) (length rows)) where
-  pub ends-early : n - s + p ≡ u → u ≡ removalEnd rows
+module _ (rows : List Row) (s : Stand) (e : s ≡ standOf rows) where
+  pub ends-early : s .frames + s .position ≡ s .upcoming .0 → s .upcoming .0 ≡ removalEnd rows
   unfolding removalEnd
-  ends-early g = rw (eq-eqb (length rows - steps rows + position rows) (earliest (upcoming rows) (length rows)) (omega arith)) ue
+  ends-early = rw e (λ g. rw (eq-eqb _ _ g) refl)
 
-  pub ends-last : (n - s + p ≡ u → ⊥) → n ≡ removalEnd rows
+  pub ends-last : (s .frames + s .position ≡ s .upcoming .0 → ⊥) → length rows ≡ removalEnd rows
   unfolding removalEnd
-  ends-last g = rw (ne-eqb (length rows - steps rows + position rows) (earliest (upcoming rows) (length rows)) (λ e. g (omega arith))) all
+  ends-last = rw e (λ g. rw (ne-eqb _ _ g) refl)
 
 -- From there on nothing stays.
 pub end-ends : (rows : List Row) → S6 rows → S7 rows → (e : ℕ) → e ≡ removalEnd rows → Ends rows e
