@@ -21,8 +21,9 @@ use Rattle.laws.proofs.Climb.{sees-out}
 use Rattle.laws.proofs.Removal.{SoundRows, cleared-steps}
 use Rattle.laws.proofs.Travel.{walked-at}
 use Rattle.laws.proofs.Navigate.{arrival, new-step, navigated-at, arrived-steps}
+use Rattle.laws.proofs.Accepted.{navigate-relies}
 use Rattle.demands.specs.Readings.{BackRestoresVisible}
-use Rattle.demands.proofs.Accepted.{accepted-none, accepted-after, navigate-relies, go-relies}
+use Rattle.demands.proofs.Accepted.{accepted-none, accepted-after, go-relies}
 use Rattle.demands.proofs.Lasting.{lasting, lasting-rows, table-after}
 use Rattle.demands.proofs.Standing.{sound-kept, words-kept}
 use Rattle.demands.proofs.Seen.{seen-append, seen-cleared}

@@ -22,13 +22,13 @@ use Rattle.laws.proofs.Append.{length-snoc}
 use Rattle.laws.proofs.Tree.{distinct, place-is, Alike, alike}
 use Rattle.laws.proofs.Removal.{SoundRows, sound-rows, stays, cleared-removed}
 use Rattle.laws.proofs.Navigate.{stayed}
+use Rattle.laws.proofs.Accepted.{Navigates}
 use Rattle.laws.proofs.Words.{rows-length, length-words}
 use Rattle.laws.proofs.Appended.{words-snoc}
 use Rattle.laws.proofs.Writes.{put-one, put-put, put-far, put-before, put-same, get-put-past}
 use Rattle.reads.specs.Within.{Within}
-use Rattle.sound.proofs.Checks.{examined-sound, examined-fits}
 use Rattle.navigates.specs.Packing.{settled}
-use Rattle.navigates.proofs.Judges.{Free, cleared-length}
+use Rattle.navigates.proofs.Judges.{cleared-length}
 use Rattle.navigates.proofs.Packed.{over-length, over-capacity, over-row}
 
 -- ONE WORD WRITTEN ANEW
@@ -95,7 +95,7 @@ runs-on old ws zs a b c =
 
 -- THE WORDS
 
-module _ (old : List ℕ) (d : ℕ) (f : Free old d) (word : tableOf old .nextDoc ≤ none) where
+module _ (old : List ℕ) (d : ℕ) (f : Navigates old d) (word : tableOf old .nextDoc ≤ none) where
   abbrev rows : List Row
   rows = rowsOf old
 
@@ -103,13 +103,13 @@ module _ (old : List ℕ) (d : ℕ) (f : Free old d) (word : tableOf old .nextDo
   c = cleared rows
 
   sound-in : SoundRows rows (tableOf old .nextDoc) (tableOf old .nextFrame)
-  sound-in = sound-rows (examined-sound old (f .examined) .table) word
+  sound-in = sound-rows (f .sound .table) word
 
   clear-sound : SoundRows c (tableOf old .nextDoc) (tableOf old .nextFrame)
   clear-sound = cleared-removed rows sound-in .sound
 
   fits : length rows ≤ capacity old
-  fits = examined-fits old (f .examined)
+  fits = f .sound .table .s1 .fits
 
   clear-fewer : length c ≤ length rows
   clear-fewer = omega (arith, cleared-length rows, count-most (stays (upcoming rows) rows) (length rows))
@@ -137,7 +137,7 @@ module _ (old : List ℕ) (d : ℕ) (f : Free old d) (word : tableOf old .nextDo
     -- d's row is found.
     still-there : (k : ℕ) → k ≡ length c → So (someBelow k (isDoc (rowsOf packed) d))
     still-there k e =
-        let s = stayed (tableOf old) sound-in (f .unused) d (f .sees) in
+        let s = stayed (tableOf old) sound-in (f .doc) d (f .seen) in
         some-in (isDoc (rowsOf packed) d) k (omega arith) (eq-eqb _ _ (ap (λ r. r .doc) (row-there (s .0) (s .1) ∙ s .2) ∙ s .3))
 
     -- What the search for d's row and the settling may rely on.
@@ -146,8 +146,8 @@ module _ (old : List ℕ) (d : ℕ) (f : Free old d) (word : tableOf old .nextDo
 
     pub settle-asks : (q k n e : ℕ) → k ≡ length c → n ≡ length rows → e ≡ tableOf old .nextDoc → q < k → Within packed q × (k < capacity packed) × (n ≤ capacity packed) × (e < none)
     settle-asks q k n e a b g l =
-        let r = f .room in
-        let u = f .unused in
+        let r = f .roomy in
+        let u = f .doc in
         let cap = packed-capacity in
         (record { fits = packed-fits; below = omega (arith, packed-rows, clear-fewer) }, omega arith, omega (arith, fits), omega (arith, word))
 
@@ -203,17 +203,17 @@ module _ (old : List ℕ) (d : ℕ) (f : Free old d) (word : tableOf old .nextDo
       zeros-there =
           let n = start-length in
           let h = fits in
-          let r = f .room in
+          let r = f .roomy in
           sym (put-put start (replicate more 0) old 0) ∙ put-same (replicate more 0) (put old 0 start) (0 + length start) (λ j b.
           let m : j < more = subst (λ x. j < x) (length-replicate more 0) b in
           getD-replicate more j 0 0 m ∙ sym (get-put-past start old 0 (0 + length start + j) (omega arith)
-          ∙ examined-sound old (f .examined) .s8 .zeros (0 + length start + j) (omega (arith, rows-length old)) (omega arith)))
+          ∙ f .sound .s8 .zeros (0 + length start + j) (omega (arith, rows-length old)) (omega arith)))
 
       wordsOf-is : wordsOf (capacity old) (navigated (tableOf old) d) ≡ start ++ replicate more 0
       unfolding wordsOf navigated
       wordsOf-is =
           let t : flatMap rowWords all ++ replicate (4 * (capacity old - length all)) 0 ≡ (flatMap rowWords all ++ zeros) ++ replicate more 0 =
-          ap (λ x. flatMap rowWords all ++ replicate (4 * (capacity old - x)) 0) all-length ∙ zeros-split (flatMap rowWords all) (capacity old) (length rows) (length c) (f .room) fits in
+          ap (λ x. flatMap rowWords all ++ replicate (4 * (capacity old - x)) 0) all-length ∙ zeros-split (flatMap rowWords all) (capacity old) (length rows) (length c) (f .roomy) fits in
           ap₂ (λ x y. x ∷ suc (tableOf old .nextDoc) ∷ tableOf old .nextFrame ∷ y) (all-length ∙ sym (add-one (length c))) t
           ∙ ap (λ x. (length c + 1) ∷ x ∷ tableOf old .nextFrame ∷ ((flatMap rowWords all ++ zeros) ++ replicate more 0)) (sym (add-one (tableOf old .nextDoc)))
 
