@@ -13,11 +13,12 @@ use Rattle.rules.specs.Calls.{Call}
 use Rattle.rules.specs.Runs.{Move, on, after}
 use Rattle.laws.proofs.Tests.{clash}
 use Rattle.laws.proofs.Removal.{SoundRows}
+use Rattle.laws.proofs.Accepted.{navigate-relies}
 use Rattle.demands.specs.Record.{Words32, Accepted}
 use Rattle.demands.specs.Refuses.{lines, HoldsIn, Applies, Absent, Hidden, Beyond}
 use Rattle.demands.specs.Model.{History, navigating, Same, Traverses}
 use Rattle.demands.specs.Follows.{ofRows, historyOf, FollowsModel, Demand2}
-use Rattle.demands.proofs.Accepted.{accepted-none, accepted-after, navigate-relies, go-relies}
+use Rattle.demands.proofs.Accepted.{accepted-none, accepted-after, go-relies}
 use Rattle.demands.proofs.Lasting.{lasting, lasting-rows, table-after}
 use Rattle.demands.proofs.Demand1.{demand1, outside-is}
 use Rattle.demands.proofs.Saving.{undo-each-other}

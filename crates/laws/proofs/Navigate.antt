@@ -86,7 +86,7 @@ module _ (t : Table) (s : SoundRows (t .rows) (t .nextDoc) (t .nextFrame)) (unus
     c = cleared rows
 
     -- d's row stays: its place then.
-    stayed : (k : ℕ) × (k < length c) × (rowAt c k ≡ rowAt rows (place rows d)) × (docAt rows (place rows d) ≡ d) × So (isShown rows (place rows d))
+    pub stayed : (k : ℕ) × (k < length c) × (rowAt c k ≡ rowAt rows (place rows d)) × (docAt rows (place rows d) ≡ d) × So (isShown rows (place rows d))
     unfolding without
     stayed =
         let v = sees-out rows d sees in
@@ -100,7 +100,8 @@ module _ (t : Table) (s : SoundRows (t .rows) (t .nextDoc) (t .nextFrame)) (unus
           ap (isShown rows) e ∙ visible-out rows (v .0) (v .3) .0,
         )
 
-    new-step : So (isStep (c ++ arrival ∷ []) (length c))
+    -- The row that comes is a step.
+    pub new-step : So (isStep (c ++ arrival ∷ []) (length c))
     new-step =
         let k = stayed in
         step-in (frameAt (c ++ arrival ∷ [])) (k .1) (ap (λ r. r .frame) (snoc-old c arrival (k .0) (k .1) ∙ k .2) ∙ ap (λ r. r .frame) (sym (snoc-new c arrival)))

@@ -59,15 +59,15 @@ length-words [] = refl
 length-words (r ∷ rows) = let h = length-words rows in omega arith
 
 -- Word 4 i + c of the rows' words is word c of row i.
-words-at : (rows : List Row) (z : List ℕ) (i c : ℕ) → i < length rows → c < 4 → getD (flatMap rowWords rows ++ z) (4 * i + c) 0 ≡ getD (rowWords (rowAt rows i)) c 0
+pub word-at : (rows : List Row) (i c : ℕ) → i < length rows → c < 4 → getD (flatMap rowWords rows) (4 * i + c) 0 ≡ getD (rowWords (rowAt rows i)) c 0
 unfolding flatMap
-words-at [] z i c l m = absurd (not-suc-le-zero l)
-words-at (r ∷ rows) z zero c l m =
+word-at [] i c l m = absurd (not-suc-le-zero l)
+word-at (r ∷ rows) zero c l m =
     let e : 4 * 0 + c ≡ c = omega arith in
-    rw e (List·getD-append (rowWords r) (flatMap rowWords rows ++ z) 0 c (omega arith))
-words-at (r ∷ rows) z (suc i) c l m =
+    rw e (List·getD-append (rowWords r) (flatMap rowWords rows) 0 c (omega arith))
+word-at (r ∷ rows) (suc i) c l m =
     let e : 4 * suc i + c ≡ length (rowWords r) + (4 * i + c) = omega arith in
-    rw e (getD-append-add (rowWords r) (flatMap rowWords rows ++ z) (4 * i + c) 0 ∙ words-at rows z i c (omega arith) m)
+    rw e (getD-append-add (rowWords r) (flatMap rowWords rows) (4 * i + c) 0 ∙ word-at rows i c (omega arith) m)
 
 wordsOf-head : (c : ℕ) (t : Table) (k : ℕ) → k < 3 → getD (wordsOf c t) k 0 ≡ getD (length (t .rows) ∷ t .nextDoc ∷ t .nextFrame ∷ []) k 0
 unfolding wordsOf
@@ -86,7 +86,7 @@ module _ (c : ℕ) (t : Table) (fits : length (t .rows) ≤ c) where
   unfolding wordsOf
   wordsOf-row i k l m =
       getD-append-add (length (t .rows) ∷ t .nextDoc ∷ t .nextFrame ∷ []) (flatMap rowWords (t .rows) ++ replicate (4 * (c - length (t .rows))) 0) (4 * i + k) 0
-      ∙ words-at (t .rows) _ i k l m
+      ∙ List·getD-append (flatMap rowWords (t .rows)) _ 0 (4 * i + k) (omega (arith, length-words (t .rows))) ∙ word-at (t .rows) i k l m
 
   pub wordsOf-past : (k : ℕ) → 3 + 4 * length (t .rows) ≤ k → k < 3 + 4 * c → getD (wordsOf c t) k 0 ≡ 0
   unfolding wordsOf
@@ -172,7 +172,8 @@ module _ (words : List ℕ) where
   head-words (suc (suc zero)) l = refl
   head-words (suc (suc (suc k))) l = absurd (omega arith)
 
-  rowIn-words : (i c : ℕ) → c < 4 → getD (rowWords (rowIn words i)) c 0 ≡ getD words (3 + (4 * i + c)) 0
+  -- Word c of row i, read as a row's and as the words'.
+  pub rowIn-words : (i c : ℕ) → c < 4 → getD (rowWords (rowIn words i)) c 0 ≡ getD words (3 + (4 * i + c)) 0
   rowIn-words i zero l = ap (λ j. getD words j 0) (omega arith)
   rowIn-words i (suc zero) l = ap (λ j. getD words j 0) (omega arith)
   rowIn-words i (suc (suc zero)) l = ap (λ j. getD words j 0) (omega arith)
