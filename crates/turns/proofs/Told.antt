@@ -11,7 +11,8 @@ use Rattle.asks.specs.declared.Standing.{Standing}
 use Rattle.asks.specs.declared.Standing.the-variants as Standings
 use Rattle.lines.specs.Lines.{Command, parse, commandIs}
 use Rattle.lines.specs.declared.Command.{Command as Read}
-use Rattle.turns.specs.Turns.{Said, Turned, okAt, deniedAt, told, standing, moved, Leaves, gone, obeyed, turned}
+use Rattle.lines.specs.Reply.{Said}
+use Rattle.turns.specs.Turns.{Turned, okAt, deniedAt, told, standing, moved, Leaves, gone, obeyed, turned}
 
 -- WHERE THE WINDOW STANDS
 
