@@ -16,7 +16,7 @@ use Rattle.texts.specs.Cuts.{lineIn, ends?, grown, cutOf, Cuts}
 use Rattle.texts.specs.declared.Cut.{Cut}
 
 -- Past the end of a run nothing is put.
-put-out : (vs l : List ℕ) (i : ℕ) → length l ≤ i → put l i vs ≡ l
+pub put-out : (vs l : List ℕ) (i : ℕ) → length l ≤ i → put l i vs ≡ l
 unfolding put
 put-out [] l i h = refl
 put-out (v ∷ vs) l i h = ap (λ m. put m (suc i) vs) (set-out l i v h) ∙ put-out vs l (suc i) (omega arith)

@@ -1,2 +1,6 @@
 pub mod Lines
 pub mod Cutting
+pub mod Enough
+pub mod Alike
+pub mod Answering
+pub mod Feeding
