@@ -63,10 +63,10 @@ module _ (rows : List Row) (s6 : S6 rows) (s7 : S7 rows) where
   -- WHERE ALL ROWS FROM PLACE b ON ARE STEPS
 
   -- It is so where as many first rows come before as there are frames.
-  module _ (i m frames : ℕ) (e : m ≡ count (isStep rows) i) (h : m ≤ i) (f : frames + steps rows ≡ length rows) where
+  module _ (i m frames : ℕ) (e : m ≡ count (isStep rows) i) (h : m ≤ i) (f : frames ≡ length rows - steps rows) where
     pub begun-later : i ≤ length rows → i - m < frames → i < length rows
     unfolding steps
-    begun-later l g = omega (arith, count-mono (isStep rows) (length rows) l)
+    begun-later l g = omega (arith, count-mono (isStep rows) (length rows) l, count-most (isStep rows) (length rows))
 
     -- It was not yet so before a step.
     pub begun-not-yet : (b : Bool) → b ≡ isStep rows i → i - m < frames → (k : ℕ) → k + 1 ≡ i + 1 → So (isStep rows k) → i + 1 - (m + boolByte b) < frames
@@ -78,7 +78,7 @@ module _ (rows : List Row) (s6 : S6 rows) (s7 : S7 rows) where
     pub begun-here : i ≤ length rows → i ≤ m + frames → ((k : ℕ) → k + 1 ≡ i → So (isStep rows k) → i - m < frames) → frames ≤ i - m → Begun rows i
     unfolding steps
     begun-here l a j b =
-        record { upto = l; steps = count-full (isStep rows) (length rows) (omega arith); just = λ k q. off (isStep rows k) (λ t. omega (arith, j k q t)) }
+        record { upto = l; steps = count-full (isStep rows) (length rows) (omega (arith, count-most (isStep rows) (length rows))); just = λ k q. off (isStep rows k) (λ t. omega (arith, j k q t)) }
 
   abbrev start : ℕ
   start = earliest (upcoming rows) (length rows)

@@ -173,7 +173,7 @@ fn list_mixed(words: &[u32], s: Stand, taken: &mut [u32], upcoming: &mut [u32]) 
     ensures takens { λ r. ⌜ TakensTo (rowsOf (now (words .entry))) (r .0) (now (taken .entry)) (now (taken .exit)) ⌝ }
     ensures upcomings { λ r. ⌜ UpcomingsTo (rowsOf (now (words .entry))) (r .0) (now (upcoming .entry)) (now (upcoming .exit)) ⌝ }
 {
-    let frames = rows::row_count(words) - s.steps;
+    let frames = s.frames;
     let mut m = 0;
     let mut high = FrameNo(0);
     let mut i = 0;
@@ -215,7 +215,7 @@ fn list_upcoming(words: &[u32], from: RowPlace, s: Stand, upcoming: &mut [u32])
     ensures { λ _. ⌜ UpcomingsFrom (rowsOf (now (words .entry))) (from .0) (now (upcoming .entry)) (now (upcoming .exit)) ⌝ }
 {
     let n = rows::row_count(words);
-    let first = n - s.steps + s.position;
+    let first = s.frames + s.position;
     let mut i = later(from, s.upcoming).0;
     while i < n {
         upcoming[i - first] = reads::document(words, RowPlace(i)).0;

@@ -12,6 +12,7 @@ use Rattle.rules.specs.Words.{put, tableOf, rowsOf}
 use Rattle.rules.specs.Calls.{Call, outcome}
 use Rattle.laws.proofs.Tests.{by-lt}
 use Rattle.laws.proofs.Writes.{put-none, put-put, put-four}
+use Rattle.reads.specs.Within.{Within}
 use Rattle.traverses.specs.declared.Change.{Change}
 use Rattle.traverses.specs.declared.Trip.{Trip}
 use Rattle.traverses.specs.declared.Traversed.{Traversed}
@@ -71,8 +72,8 @@ module _ (words : List ℕ) (trip : Trip) (from : ℕ) (h : Awaits words trip fr
   pub row-found : c .frame .0 < tableOf words .nextFrame
   row-found = by-lt (c .frame .0) (tableOf words .nextFrame) (λ l. l) (λ l. let e = ap length (n .last l) in let s = h .some in absurd (omega arith))
 
-  pub row-places : (c .old .0 < length (rowsOf words)) × (c .new .0 < length (rowsOf words))
-  row-places = (n .first row-found, n .second row-found)
+  pub row-places : Within words (c .old .0) × Within words (c .new .0)
+  row-places = (record { fits = h .ready .fits; below = n .first row-found }, record { fits = h .ready .fits; below = n .second row-found })
 
   pub row-follows : (b a : DocNo) (v : ℕ) → b .0 ≡ docAt (rowsOf words) (c .old .0) → a .0 ≡ docAt (rowsOf words) (c .new .0) → v ≡ flag (visibleAt (rowsOf words) (c .new .0)) → c .frame .0 < none →
       Follows words trip from (record { frame = c .frame; before = b; after = a; load = v })

@@ -1,28 +1,22 @@
--- What an accepted move may rely on, and the table that it leaves. Assumes nothing.
-use Prim.Native.Nat.{ℕ, _≤_, _<_}
+-- When a call is accepted, what an accepted Traverse may rely on, and the table that a move leaves. Assumes nothing.
+use Prim.Native.Nat.{ℕ, _≤_}
 use mathlib.Core.List.{List, []}
-use mathlib.Core.Logic.{_≢_}
-use mathlib.Core.Bool.{Bool, true, false, not, _||_, So}
+use mathlib.Core.Bool.{false, not}
 use mathlib.Core.Path.{_≡_, refl, sym, ap, _∙_}
 use native.Mathlib.Omega.{arith}
 use lib.IntN.{ℤ, pos, _+ℤ_}
 use lib.ListN.{length, getD}
-use borrow.Author.Tests.{ltb-false, leb-false, eqb-false, le-ltb, not-false}
-use Rattle.rules.specs.Rows.{Table, none}
-use Rattle.rules.specs.Steps.{position, steps, visible}
-use Rattle.rules.specs.Moves.{opened, cleared, navigated, traversed, changes}
-use Rattle.rules.specs.Words.{capacity, tableOf, rowsOf, written}
+use borrow.Author.Tests.{ltb-false, le-ltb, not-false}
+use Rattle.rules.specs.Rows.{Table}
+use Rattle.rules.specs.Steps.{position, steps}
+use Rattle.rules.specs.Moves.{opened, navigated, traversed, changes}
+use Rattle.rules.specs.Words.{tableOf, rowsOf, written}
 use Rattle.rules.specs.Sound.{Sound}
 use Rattle.rules.specs.Calls.{Call, Answer, outside, refusals, accepted, outcome, Given, NoneGiven}
 use Rattle.rules.specs.Runs.{Move, on, after}
-use Rattle.laws.proofs.Tests.{clash}
 use Rattle.laws.proofs.Reflect.{sound-is}
 use Rattle.laws.proofs.Calls.{by-ladder, accepted-gives, outcome-accepted, outcome-refused}
 use Rattle.demands.specs.Record.{Accepted}
-
-either : (a b : Bool) → (a || b) ≡ false → (a ≡ false) × (b ≡ false)
-either true b e = absurd (clash refl e)
-either false b e = (refl, e)
 
 by-answer : (a : Answer) → ((k : ℕ) → a ≡ Answer.refuses k → ⊥) → (values : List ℕ) × (a ≡ Answer.gives values)
 by-answer (Answer.refuses k) h = absurd (h k refl)
@@ -39,42 +33,7 @@ accepted-none c a =
 pub none-accepted : (c : Call) → NoneGiven (refusals c) → Accepted c
 none-accepted c h = by-answer (outcome c .answer) (λ k e. accepted-gives c k (ap (λ o. o .answer) (sym (outcome-accepted c h)) ∙ e))
 
--- What each call relies on when it is accepted.
-pub record Opens (words : List ℕ) (p : ℕ) : Type 0 where
-  pub sound : Sound words
-  pub seen : So (visible (rowsOf words) p)
-  pub roomy : length (rowsOf words) < capacity words
-  pub doc : tableOf words .nextDoc ≢ none
-  pub frame : tableOf words .nextFrame ≢ none
-
-pub open-relies : (words : List ℕ) (p : ℕ) → NoneGiven (refusals (Call.Open words p)) → Opens words p
-unfolding refusals NoneGiven
-open-relies words p h =
-    let f = either _ _ (h .1 .1 .1 .1 .1 .0) in
-    record {
-      sound = sound-is words .0 (not-false _ (h .1 .0));
-      seen = not-false _ (h .1 .1 .1 .0);
-      roomy = leb-false _ _ (h .1 .1 .1 .1 .0);
-      doc = eqb-false _ _ (f .0);
-      frame = eqb-false _ _ (f .1);
-    }
-
-pub record Navigates (words : List ℕ) (d : ℕ) : Type 0 where
-  pub sound : Sound words
-  pub seen : So (visible (rowsOf words) d)
-  pub roomy : length (cleared (rowsOf words)) < capacity words
-  pub doc : tableOf words .nextDoc ≢ none
-
-pub navigate-relies : (words : List ℕ) (d : ℕ) → NoneGiven (refusals (Call.Navigate words d)) → Navigates words d
-unfolding refusals NoneGiven
-navigate-relies words d h =
-    record {
-      sound = sound-is words .0 (not-false _ (h .1 .0));
-      seen = not-false _ (h .1 .1 .1 .0);
-      roomy = leb-false _ _ (h .1 .1 .1 .1 .0);
-      doc = eqb-false _ _ (h .1 .1 .1 .1 .1 .0);
-    }
-
+-- What an accepted Traverse may rely on.
 pub record Goes (words : List ℕ) (δ : ℤ) (room : List ℕ) : Type 0 where
   pub long : 7 ≤ length words
   pub sound : Sound words

@@ -2,22 +2,24 @@
 use Prim.Native.Nat.{ℕ, suc, _≤_, _<_}
 use mathlib.Core.List.{List, [], _∷_}
 use mathlib.Core.Logic.{inl, inr, ⊎-elim}
-use mathlib.Core.Bool.{Bool, true, false, not, false≢true}
-use mathlib.Core.Path.{_≡_, refl, sym, ap, _∙_}
+use mathlib.Core.Bool.{Bool, true, false, not, So, false≢true}
+use mathlib.Core.Path.{_≡_, refl, sym, ap, subst, _∙_}
 use native.Mathlib.Omega.{arith}
 use lib.IntN.{ℤ, pos, negsuc, _+ℤ_}
-use lib.ListN.{length}
+use lib.ListN.{length, replicate, length-replicate}
 use borrow.Author.Tests.{not-true, not-false, lt-ltb}
 use Rattle.rules.specs.Rows.{docAt, inRecord}
 use Rattle.rules.specs.Steps.{position, steps}
-use Rattle.rules.specs.Words.{rowsOf}
+use Rattle.rules.specs.Words.{capacity, rowsOf, written}
 use Rattle.rules.specs.Asks.{stretched}
-use Rattle.rules.specs.Saved.{fromSave?}
+use Rattle.rules.specs.Saved.{saved, loaded, fromSave?}
 use Rattle.rules.specs.Calls.{Call, Answer, Rung, short, unsound, absent, hidden, outside, refusals, outcome, Given}
 use Rattle.laws.proofs.Tests.{test, clash}
 use Rattle.laws.proofs.Reflect.{Ref, ref-lt, ref-le, ref-eq, ref-or, ref-map, ref-any, sound-is}
+use Rattle.laws.proofs.Words.{table-written, written-sound}
+use Rattle.laws.proofs.Loads.{in-room, from-save-is, from-save-in}
 use Rattle.laws.proofs.Calls.{refused-when, refused-keeps}
-use Rattle.demands.specs.Refuses.{Short, Unsound, NotSaved, StandsAt, Absent, Hidden, Outside, Line, lines, HoldsIn, Applies, Demand1}
+use Rattle.demands.specs.Refuses.{Short, Unsound, SavedBySome, NotSaved, StandsAt, Absent, Hidden, Outside, Line, lines, HoldsIn, Applies, Demand1}
 
 -- The numbers rise, from b on and up to 9.
 Rising : ℕ → List Line → Type 0
@@ -113,8 +115,21 @@ pub outside-is : (n : ℕ) (δ : ℤ) → Ref (outside n δ) (Outside n δ)
 outside-is n (pos q) = ref-lt n q
 outside-is n (negsuc q) = (λ e. tt, λ u. refl)
 
+-- Bytes that pass are those of the record that they tell, in a run of words with room for 512 rows.
+pub saved-is : (bytes : List ℕ) → Ref (fromSave? bytes) (SavedBySome bytes)
+saved-is bytes = (
+  λ h.
+      let s = from-save-is bytes .0 h in
+      let blank : List ℕ = replicate 2051 0 in
+      let c : length blank ≡ 2051 = length-replicate {A = ℕ} 2051 0 in
+      let fits : length (loaded bytes .rows) ≤ capacity blank = omega (arith, s .0 .s1 .fits) in
+      let long : 3 ≤ length blank = omega arith in
+      (written blank (loaded bytes), written-sound blank (loaded bytes) long (in-room _ (s .0) fits), ap saved (table-written blank (loaded bytes) long fits) ∙ s .1),
+  λ w. subst (λ b. So (fromSave? b)) (w .2) (from-save-in _ (in-room 512 (w .1 .table) (omega (arith, w .1 .table .s1 .fits)))),
+)
+
 not-saved-is : (bytes : List ℕ) → Ref (not (fromSave? bytes)) (NotSaved bytes)
-not-saved-is bytes = (λ h. not-true _ h, λ e. ap not e)
+not-saved-is bytes = ref-not (saved-is bytes)
 
 -- EACH CALL
 

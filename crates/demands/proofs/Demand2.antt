@@ -1,4 +1,4 @@
--- Demand 2: moves on a sound record follow 001's fully patched model. Assumes nothing.
+-- Demand 2: moves on a sound record follow 001's fully patched model, and saving and loading undo each other. Assumes nothing.
 use Prim.Native.Nat.{ℕ}
 use mathlib.Core.List.{List}
 use mathlib.Core.Logic.{_↔_, _⊎_, ⊎-elim}
@@ -13,13 +13,15 @@ use Rattle.rules.specs.Calls.{Call}
 use Rattle.rules.specs.Runs.{Move, on, after}
 use Rattle.laws.proofs.Tests.{clash}
 use Rattle.laws.proofs.Removal.{SoundRows}
+use Rattle.laws.proofs.Accepted.{navigate-relies}
 use Rattle.demands.specs.Record.{Words32, Accepted}
 use Rattle.demands.specs.Refuses.{lines, HoldsIn, Applies, Absent, Hidden, Beyond}
 use Rattle.demands.specs.Model.{History, navigating, Same, Traverses}
 use Rattle.demands.specs.Follows.{ofRows, historyOf, FollowsModel, Demand2}
-use Rattle.demands.proofs.Accepted.{accepted-none, accepted-after, navigate-relies, go-relies}
+use Rattle.demands.proofs.Accepted.{accepted-none, accepted-after, go-relies}
 use Rattle.demands.proofs.Lasting.{lasting, lasting-rows, table-after}
 use Rattle.demands.proofs.Demand1.{demand1, outside-is}
+use Rattle.demands.proofs.Saving.{undo-each-other}
 use Rattle.demands.proofs.Traverses.{traversed-inside, walk-model, theorem-1}
 use Rattle.demands.proofs.Shape.{is-history, well-formed, one-root}
 use Rattle.demands.proofs.Active.{visible-active}
@@ -95,6 +97,6 @@ module _ (words : List ℕ) (wide : Words32 words) (s : Sound words) where
             clash (outside-is (steps (t .rows)) (pos (position (t .rows)) +ℤ δ) .1 (says-beyond words δ room (demand1 _ .exactly 6 .0 e .0))) (traversed-inside (t .rows) rows δ K x);
       }
 
--- "Navigating and traversing give the record that the fully patched model of source document 001 gives"
+-- "Navigating and traversing give the record that the fully patched model of source document 001 gives [..] Saving and loading undo each other"
 pub demand2 : Demand2
-demand2 = follows-model
+demand2 = record { model = follows-model; saving = undo-each-other }

@@ -18,8 +18,9 @@ use Rattle.laws.proofs.Removal.{SoundRows, sound-rows}
 use Rattle.laws.proofs.Travel.{walked-at}
 use Rattle.laws.proofs.Navigate.{arrival, sound-at, opened-sound, navigated-at, navigated-sound}
 use Rattle.laws.proofs.Words.{table-written}
+use Rattle.laws.proofs.Accepted.{open-relies, navigate-relies}
 use Rattle.demands.specs.Record.{Words32}
-use Rattle.demands.proofs.Accepted.{open-relies, navigate-relies, go-relies, made}
+use Rattle.demands.proofs.Accepted.{go-relies, made}
 
 -- A sound table with this room whose next numbers are words.
 pub record Lasting (room : ℕ) (t : Table) : Type 0 where

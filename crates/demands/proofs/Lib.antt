@@ -1,13 +1,15 @@
--- What the customer buys, as theorems over the definitions of `rules`. The ends of the lines of thought: `p1-to-p12`, `determined`, `standing`,
--- `demand1`, `demand2`, `noted` and `demand3`, `traverse-traverse`, and of the readings that look right `back-does-not-restore`,
--- `back-restores-visible`, `own-future-not-enough`.
+-- What the customer buys, as theorems over the definitions of `rules`. The ends of the lines of thought: `p1-to-p12`, `standing`, `past-spared`,
+-- `demand1`, `undo-each-other` and `demand2`, `noted` and `demand3`, `traverse-traverse`, and of the readings that look right
+-- `back-does-not-restore`, `back-restores-visible`, `own-future-not-enough`, `visible-futures-not-enough`, `back-is-not-to-latest-past`,
+-- `back-is-not-from-latest-of-all`, `back-is-not-to-first`, `back-is-backward`.
 pub mod Examples
-pub mod Determined
 pub mod Demand1
 pub mod Accepted
 pub mod Lasting
 pub mod Wide
 pub mod Standing
+pub mod Past
+pub mod Saving
 pub mod Seen
 pub mod Steady
 pub mod Demand3
@@ -22,4 +24,3 @@ pub mod Navigates
 pub mod Demand2
 pub mod Readings
 pub mod Return
-pub mod Saving

@@ -8,18 +8,15 @@ use native.Mathlib.Omega.{arith}
 use lib.Dec.{eqb}
 use lib.ListN.{length}
 use borrow.Author.Tests.{ne-eqb, eqb-false, not-true}
-use Rattle.rules.specs.Below.{count}
 use Rattle.rules.specs.Rows.{Row, Table, none, rowAt, docAt, frameAt, parentAt, isShown, isDoc, place, marked}
-use Rattle.rules.specs.Steps.{upcoming, position, visibleAt, visible}
-use Rattle.rules.specs.Moves.{without, cleared, hide, navigated}
-use Rattle.laws.proofs.Tests.{count-in, below-cases}
+use Rattle.rules.specs.Steps.{visible}
+use Rattle.rules.specs.Moves.{cleared, hide, navigated}
+use Rattle.laws.proofs.Tests.{below-cases}
 use Rattle.laws.proofs.Flags.{flag-test, flags-length, flags-row}
-use Rattle.laws.proofs.Central.{central}
 use Rattle.laws.proofs.Append.{length-snoc, snoc-old, snoc-new}
-use Rattle.laws.proofs.Kept.{kept-row, kept-length}
-use Rattle.laws.proofs.Tree.{distinct, place-is, alike}
-use Rattle.laws.proofs.Climb.{sees-out}
-use Rattle.laws.proofs.Removal.{SoundRows, stays, cleared-removed, visible-stays}
+use Rattle.laws.proofs.Tree.{distinct, alike}
+use Rattle.laws.proofs.Removal.{SoundRows, cleared-removed}
+use Rattle.laws.proofs.Navigate.{stayed}
 use Rattle.demands.specs.Model.{History, replacing, navigating, Same}
 use Rattle.demands.specs.Follows.{ofPlaces, ofRows}
 use Rattle.demands.proofs.Histories.{same-trans}
@@ -142,21 +139,6 @@ module _ (t : Table) (s : SoundRows (t .rows) (t .nextDoc) (t .nextFrame)) (unus
   abbrev x : Row
   x = record { doc = t .nextDoc; frame = frameAt rows (place rows d); parent = parentAt rows (place rows d); shown = 1 }
 
-  -- d's row stays.
-  from : (k : ℕ) × (k < length c) × (rowAt c k ≡ rowAt rows (place rows d)) × (docAt c k ≡ d)
-  unfolding without
-  from =
-      let v = sees-out rows d sees in
-      let e = place-is rows (s .tree) (v .0) d (v .1) (v .2) in
-      let keep = stays (upcoming rows) rows in
-      let u = visible-stays rows s (position rows) (omega arith) (v .0) (v .1) (subst (λ l. So (visibleAt l (v .0))) (sym (central rows (s .s6) (s .s7))) (v .3)) in
-      let r = kept-row keep rows (v .0) (v .1) u in (
-        count keep (v .0),
-        subst (λ n. count keep (v .0) < n) (sym (kept-length keep rows)) (count-in keep (length rows) (v .1) u),
-        r ∙ ap (rowAt rows) (sym e),
-        ap (λ y. y .doc) r ∙ v .2,
-      )
-
   longer : length (navigated t d .rows) ≡ suc (length c)
   unfolding navigated hide
   longer = length-snoc (hide d c) x ∙ ap suc (flags-length _ c)
@@ -171,14 +153,14 @@ module _ (t : Table) (s : SoundRows (t .rows) (t .nextDoc) (t .nextFrame)) (unus
 
   pub navigate-model : Same (navigating (ofRows rows) d (t .nextDoc)) (ofRows (navigated t d .rows))
   navigate-model =
-      let k = from in
+      let k = stayed t s unused d sees in
       let tr = cleared-removed rows s .sound .tree in
       let m = length c in
       let a = alike {l = c} {m = rows} {i = k .0} {k = place rows d} (k .2) in
       let new = navigated t d .rows in
       same-trans (replacing-same (deleted-model rows s) d (t .nextDoc))
       (subst (λ n. Same (replacing (ofRows c) d (t .nextDoc)) (ofPlaces n (docAt new) (frameAt new) (parentAt new) (isShown new))) (sym longer)
-      (replaced m (docAt c) (frameAt c) (parentAt c) (isShown c) (docAt new) (frameAt new) (parentAt new) (isShown new) (t .nextDoc) d (k .0) (distinct tr) (k .1) (k .3)
+      (replaced m (docAt c) (frameAt c) (parentAt c) (isShown c) (docAt new) (frameAt new) (parentAt new) (isShown new) (t .nextDoc) d (k .0) (distinct tr) (k .1) (ap (λ y. y .doc) (k .2) ∙ k .3)
       (λ j l e. ⊎-elim (λ q. unused (sym e ∙ q)) (λ r. let z = tr .below (r .0) (omega arith) in omega (arith, r .2)) (tr .placed j l))
       (λ i l. ap (λ y. y .doc) (old-row i l))
       (λ i l. ap (λ y. y .frame) (old-row i l))

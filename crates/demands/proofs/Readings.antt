@@ -1,22 +1,33 @@
--- Two readings that look right are false, each on a record that is computed. Assumes nothing.
-use Prim.Native.Nat.{ℕ, _≤_}
+-- Readings that look right are false, each on a record that is computed. Assumes nothing.
+use Prim.Native.Nat.{ℕ, _-_, _≤_, _<_}
+use mathlib.Core.Bool.{Bool, So, false, not, _&&_, and-eq-true-iff}
 use mathlib.Core.List.{List, [], _∷_, flatMap}
-use mathlib.Core.Path.{_≡_, refl, ap, subst, sym}
+use mathlib.Core.Logic.{inr}
+use mathlib.Core.Path.{_≡_, refl, ap, subst, sym, _∙_}
 use native.Mathlib.Omega.{arith}
-use lib.Dec.{leb}
+use lib.Dec.{eqb, leb}
+use lib.IntN.{pos, negsuc, _+ℤ_}
 use lib.ListN.{length, getD, replicate, List·getD-eq-default}
-use borrow.Author.Tests.{leb-true}
+use borrow.Author.Tests.{eqb-true, eq-eqb, leb-true, le-leb, le-ltb, not-true}
 use Rattle.rules.specs.Below.{someBelow, allBelow, count, earliest, latest, tab, gather}
-use Rattle.rules.specs.Rows.{Row, Table, none, inRecord, place, isFrame, withFlags, climb}
+use Rattle.rules.specs.Rows.{Row, Table, none, docAt, frameAt, isShown, inRecord, place, isFrame, withFlags, climb}
 use Rattle.rules.specs.Steps.{step, reach, position, steps, visible}
 use Rattle.rules.specs.Moves.{gone, without, hide, navigated, show, backTarget, rowBefore, back, walked, shownDoc, changeRow, changes}
 use Rattle.rules.specs.Words.{put, tableOf, wordsOf, written}
 use Rattle.rules.specs.Sound.{soundTable?, sound?, Sound}
-use Rattle.rules.specs.Calls.{refusals, accepted, ladder, outcome}
-use Rattle.laws.proofs.Tests.{by-lt, all-out}
+use Rattle.rules.specs.Calls.{outside, refusals, accepted, ladder, outcome}
+use Rattle.laws.proofs.Tests.{clash, by-lt, all-out}
 use Rattle.laws.proofs.Reflect.{sound-is, sound-table-is}
+use Rattle.laws.proofs.Central.{position-steps}
+use Rattle.laws.proofs.Tree.{tree-of}
+use Rattle.laws.proofs.Removal.{sound-rows}
 use Rattle.demands.specs.Record.{Words32}
-use Rattle.demands.specs.Readings.{BackRestoresShown, OwnFutureEnough}
+use Rattle.demands.specs.Model.{Future, Backward}
+use Rattle.demands.specs.Follows.{ofRows}
+use Rattle.demands.specs.Readings.{BackRestoresShown, OwnFutureEnough, VisibleFuturesEnough, BackIs, ToLatestPast, FromLatestOfAll, ToFirst}
+use Rattle.demands.proofs.Histories.{same-refl}
+use Rattle.demands.proofs.Traverses.{walk-model}
+use Rattle.demands.proofs.Active.{visible-active}
 
 abbrev row : ℕ → ℕ → ℕ → ℕ → Row
 row d f p s = record { doc = d; frame = f; parent = p; shown = s }
@@ -55,3 +66,106 @@ unfolding someBelow allBelow count earliest latest tab gather inRecord place wit
 own-future-not-enough claim =
     let s7 = claim 8 five 2 (sound-table-is 8 five .0 refl) refl in
     omega (arith, s7 .later 3 4 (omega arith) (omega arith) refl refl refl)
+
+-- 001'S MODEL
+
+-- Rows whose documents are their places: what the model's relations say of them.
+module _ (rows : List Row) (numbered : So (allBelow (length rows) (λ i. eqb (docAt rows i) i))) where
+  named : (i : ℕ) → i < length rows → docAt rows i ≡ i
+  named i l = eqb-true _ _ (all-out (λ i. eqb (docAt rows i) i) (length rows) numbered i l)
+
+  shown-told : (d : ℕ) → ofRows rows .A d → So (isShown rows d)
+  shown-told d x = subst (λ i. So (isShown rows i)) (sym (named (x .0) (x .1)) ∙ x .2) (x .3)
+
+  order-told : (d e : ℕ) → ofRows rows .le d e → d ≤ e
+  order-told d e x = omega (arith, x .2, x .4, x .5, named (x .0) (omega (arith, x .2, x .3)), named (x .1) (x .3))
+
+  future-told : (d e : ℕ) → Future (ofRows rows) d e → (d < e) × (e < length rows) × (frameAt rows d ≡ frameAt rows e)
+  future-told d e x =
+      let s = x .0 in
+      let i : s .0 ≡ d = sym (named (s .0) (s .2)) ∙ s .4 in
+      let j : s .1 ≡ e = sym (named (s .1) (s .3)) ∙ s .5 in
+      let l = order-told d e (x .1 .0) in
+      let ne = x .1 .1 in
+      (omega arith, omega (arith, s .3), ap (frameAt rows) (sym i) ∙ s .6 ∙ ap (frameAt rows) j)
+
+  -- And back.
+  future-in : (d e : ℕ) → d < e → e < length rows → frameAt rows d ≡ frameAt rows e → Future (ofRows rows) d e
+  future-in d e l m f =
+      let i = named d (omega arith) in
+      let j = named e m in
+      ((d, e, omega arith, m, i, j, f), ((d, e, omega arith, m, i, j), λ q. omega arith))
+
+  -- No d before e in one session passes: all are tried.
+  nowhere : (p : ℕ → ℕ → Bool) → So (allBelow (length rows) (λ e. allBelow e (λ d. not (eqb (frameAt rows d) (frameAt rows e) && p d e)))) →
+      (d e : ℕ) → Future (ofRows rows) d e → So (p d e) → ⊥
+  nowhere p none-passes d e x y =
+      let f = future-told d e x in
+      let both : So (eqb (frameAt rows d) (frameAt rows e) && p d e) = simp and-eq-true-iff (eq-eqb _ _ (f .2), y) in
+      clash both (not-true _ (all-out _ e (all-out _ (length rows) none-passes e (f .1)) d (f .0)))
+
+-- 001, counterexample 2: frame 2 lies in document 1, which is not shown, and has step 4 upcoming.
+abbrev underHidden : Table
+underHidden = record { rows = row 0 0 none 1 ∷ row 1 1 0 0 ∷ row 2 2 1 1 ∷ row 3 1 0 1 ∷ row 4 2 1 0 ∷ []; nextDoc = 5; nextFrame = 3 }
+
+pub visible-futures-not-enough : VisibleFuturesEnough → ⊥
+unfolding someBelow allBelow count climb step reach visible soundTable?
+visible-futures-not-enough claim =
+    let rows = underHidden .rows in
+    let s = sound-table-is 8 underHidden .0 refl in
+    let x = claim 8 underHidden 4 s (omega arith) refl in
+    let sees = visible-active rows (tree-of s (omega arith)) (x .0) .1 (x .1) in
+    nowhere rows refl (λ d e. visible rows d && eqb e 4) refl (x .0) 4 (x .2) (simp and-eq-true-iff (sees, refl))
+
+-- 001, counterexample 3: document 2 is the latest of the past, but from 4, the latest shown, the way back is to 1.
+abbrev crossed : Table
+crossed = record { rows = row 0 0 none 1 ∷ row 1 1 0 0 ∷ row 2 2 0 0 ∷ row 3 2 0 1 ∷ row 4 1 0 1 ∷ []; nextDoc = 5; nextFrame = 3 }
+
+pub back-is-not-to-latest-past : BackIs ToLatestPast → ⊥
+unfolding someBelow allBelow count latest tab withFlags step reach position show backTarget rowBefore back soundTable?
+back-is-not-to-latest-past claim =
+    let rows = crossed .rows in
+    let x = claim 8 crossed (sound-table-is 8 crossed .0 refl) (omega arith) (omega arith) in
+    let d = x .0 in
+    let past = x .1 .0 in
+    let shown = shown-told (back rows) refl d (x .2 .A d .0 (inr refl)) in
+    let late = order-told rows refl 2 d (x .1 .1 2 (3, (3, omega arith, refl, refl), future-in rows refl 2 3 (omega arith) (omega arith) refl)) in
+    nowhere rows refl (λ d e. isShown (back rows) d && leb 2 d) refl d (past .0) (past .2) (simp and-eq-true-iff (shown, le-leb _ _ late))
+
+-- P10 before its -1: "Document 3 is the latest shown but has no row before it."
+abbrev tenBefore : Table
+tenBefore = record { rows = row 0 0 none 0 ∷ row 1 1 0 1 ∷ row 2 0 none 1 ∷ row 3 2 2 1 ∷ []; nextDoc = 4; nextFrame = 3 }
+
+pub back-is-not-from-latest-of-all : BackIs FromLatestOfAll → ⊥
+unfolding someBelow allBelow count latest tab withFlags step reach position show backTarget rowBefore back soundTable?
+back-is-not-from-latest-of-all claim =
+    let rows = tenBefore .rows in
+    let x = claim 8 tenBefore (sound-table-is 8 tenBefore .0 refl) (omega arith) (omega arith) in
+    let late = order-told rows refl 3 (x .0) (x .2 .1 3 (inr (3, omega arith, refl, refl))) in
+    nowhere rows refl (λ d e. leb 3 e) refl (x .1) (x .0) (x .3 .0) (le-leb _ _ late)
+
+-- A frame with three documents, the last of them shown.
+abbrev three : Table
+three = record { rows = row 0 0 none 0 ∷ row 1 0 none 0 ∷ row 2 0 none 1 ∷ []; nextDoc = 3; nextFrame = 1 }
+
+pub back-is-not-to-first : BackIs ToFirst → ⊥
+unfolding someBelow allBelow count latest tab withFlags step reach position show backTarget rowBefore back soundTable?
+back-is-not-to-first claim =
+    let rows = three .rows in
+    let x = claim 8 three (sound-table-is 8 three .0 refl) (omega arith) (omega arith) in
+    let d' = x .0 in
+    let d = x .1 in
+    let f = future-told rows refl d d' (x .2) in
+    let root : 0 ≡ frameAt rows d' = sym (eqb-true _ _ (all-out (λ i. eqb (frameAt rows i) 0) 3 refl d' (f .1))) in
+    let shown = shown-told (back rows) refl d (x .4 .A d .0 (inr refl)) in
+    let early = order-told rows refl d 0 (x .3 0 (future-in rows refl 0 d' (omega arith) (f .1) root)) in
+    nowhere rows refl (λ d e. isShown (back rows) d && leb d 0) refl d d' (x .2) (simp and-eq-true-iff (shown, le-leb _ _ early))
+
+-- Patch 3 as document 01 reads it is what Back does.
+pub back-is-backward : BackIs (Backward 1)
+unfolding walked
+back-is-backward room t s wide some =
+    let rows = t .rows in
+    let low : position rows - 1 ≤ steps rows = omega (arith, position-steps rows) in
+    let inside : outside (steps rows) (pos (position rows) +ℤ negsuc 0) ≡ false = rw (le-ltb (position rows) 1 some) (le-ltb _ _ low) in
+    walk-model rows (sound-rows s wide) (negsuc 0) inside (ofRows (back rows)) .1 (same-refl _)

@@ -9,21 +9,21 @@ use lib.Dec.{eqb}
 use lib.IntN.{negsuc}
 use lib.ListN.{length}
 use borrow.Author.Tests.{eqb-true, eqb-false, eq-eqb}
-use Rattle.rules.specs.Below.{count}
 use Rattle.rules.specs.Rows.{Row, Table, none, docAt, isShown, marked, climb}
-use Rattle.rules.specs.Steps.{isStep, position, steps, visibleAsk, visible}
+use Rattle.rules.specs.Steps.{position, visibleAsk, visible}
 use Rattle.rules.specs.Moves.{cleared, navigated}
 use Rattle.rules.specs.Words.{tableOf, rowsOf}
 use Rattle.rules.specs.Runs.{Move, after}
-use Rattle.laws.proofs.Tests.{test, off, count-no, count-same}
+use Rattle.laws.proofs.Tests.{test, off}
 use Rattle.laws.proofs.Central.{flagsAt, central, at-at, at-position}
-use Rattle.laws.proofs.Append.{step-agree, length-snoc, snoc-old, snoc-new, append-at}
+use Rattle.laws.proofs.Append.{length-snoc, snoc-new, append-at}
 use Rattle.laws.proofs.Climb.{sees-out}
 use Rattle.laws.proofs.Removal.{SoundRows, cleared-steps}
 use Rattle.laws.proofs.Travel.{walked-at}
-use Rattle.laws.proofs.Navigate.{arrival, navigated-at, arrived-steps}
+use Rattle.laws.proofs.Navigate.{arrival, new-step, navigated-at, arrived-steps}
+use Rattle.laws.proofs.Accepted.{navigate-relies}
 use Rattle.demands.specs.Readings.{BackRestoresVisible}
-use Rattle.demands.proofs.Accepted.{accepted-none, accepted-after, navigate-relies, go-relies}
+use Rattle.demands.proofs.Accepted.{accepted-none, accepted-after, go-relies}
 use Rattle.demands.proofs.Lasting.{lasting, lasting-rows, table-after}
 use Rattle.demands.proofs.Standing.{sound-kept, words-kept}
 use Rattle.demands.proofs.Seen.{seen-append, seen-cleared}
@@ -45,14 +45,6 @@ module _ (t : Table) (s : SoundRows (t .rows) (t .nextDoc) (t .nextFrame)) (unus
   abbrev x : Row
   x = arrival t s unused d sees
 
-  new-step : So (isStep (c ++ x ∷ []) (length c))
-  unfolding steps
-  new-step =
-      let all = isStep (c ++ x ∷ []) in
-      let before : count all (length c) ≡ count (isStep c) (length c) = count-same _ _ (length c) (step-agree (length c) _ _ (λ k l. ap (λ r. r .frame) (snoc-old c x k l))) in
-      let whole : count all (suc (length c)) ≡ suc (position (t .rows)) = ap (count all) (sym (length-snoc c x)) ∙ arrived-steps t s unused d sees in
-      test (all (length c)) (λ y. y) (λ n. absurd (omega (arith, count-no all (length c) n, cleared-steps (t .rows) s)))
-
   arrived-position : position (navigated t d .rows) ≡ suc (position (t .rows))
   arrived-position =
       ap position (navigated-at t s unused d sees) ∙ at-position _ (c ++ x ∷ []) ∙ omega (arith, arrived-steps t s unused d sees)
@@ -61,7 +53,7 @@ module _ (t : Table) (s : SoundRows (t .rows) (t .nextDoc) (t .nextFrame)) (unus
   stepped-back : (p : ℕ) → p ≡ position (t .rows) → flagsAt p (navigated t d .rows) ≡ flagsAt p c ++ x ∷ []
   stepped-back p e =
       ap (flagsAt p) (navigated-at t s unused d sees) ∙ at-at _ p (c ++ x ∷ []) ∙ append-at p c x (omega (arith, cleared-steps (t .rows) s))
-      ∙ ap (λ b. flagsAt p c ++ marked (not b) x ∷ []) new-step
+      ∙ ap (λ b. flagsAt p c ++ marked (not b) x ∷ []) (new-step t s unused d sees)
 
   seen-back : (p : ℕ) → p ≡ position (t .rows) → (e : ℕ) → visible (flagsAt p (navigated t d .rows)) e ≡ visible (t .rows) e
   seen-back p q e =

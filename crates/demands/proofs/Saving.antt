@@ -1,209 +1,153 @@
--- "saving and loading undo each other; only bytes that saving writes": said of the calls of the library. Assumes nothing.
-use Prim.Native.Nat.{ℕ, zero, suc, _+_, _*_, _/_, _≤_, _<_}
-use mathlib.Core.Bool.{Bool, true, false, not, So}
+-- Saving and loading undo each other, and loading accepts only bytes that saving writes. Assumes nothing.
+use Prim.Native.Nat.{ℕ, _+_, _≤_}
+use mathlib.Core.Bool.{not, So}
 use mathlib.Core.List.{List, [], _∷_}
 use mathlib.Core.Logic.{_↔_, inl, inr, ⊎-elim}
-use mathlib.Core.Path.{_≡_, refl, sym, ap, subst, _∙_}
+use mathlib.Core.Path.{_≡_, refl, sym, ap, ap₂, subst, _∙_}
 use native.Mathlib.Omega.{arith}
-use lib.ListN.{length, getD, take, drop, replicate, length-replicate}
+use lib.ListN.{length, getD, take, drop}
 use lib.Seq.{sets-eq, take-at}
-use borrow.Author.Tests.{ltb-true, ltb-false, le-ltb}
-use Rattle.rules.specs.Rows.{Table, none, docAt, frameAt, parentAt, shownAt}
+use borrow.Author.Tests.{ltb-false, le-ltb, not-false}
+use Rattle.rules.specs.Rows.{Table}
 use Rattle.rules.specs.Words.{put, capacity, tableOf, rowsOf, written}
-use Rattle.rules.specs.Sound.{SoundTable, Sound}
+use Rattle.rules.specs.Sound.{Sound}
 use Rattle.rules.specs.Saved.{saved, loaded, fromSave?}
-use Rattle.rules.specs.Calls.{Call, Answer, _leaving_, refusals, accepted, outcome, Given, NoneGiven}
-use Rattle.laws.proofs.Tests.{clash, off, by-lt}
-use Rattle.laws.proofs.Tree.{tree-of}
+use Rattle.rules.specs.Calls.{Call, Answer, _leaving_, refusals, accepted, outcome, NoneGiven}
+use Rattle.rules.specs.Runs.{Move, after, run}
 use Rattle.laws.proofs.Reflect.{sound-is}
-use Rattle.laws.proofs.Words.{rows-length, next-doc-in, next-frame-in, doc-in, frame-in, parent-in, shown-in, table-written, written-sound, length-written, written-written, written-table}
-use Rattle.laws.proofs.Calls.{by-ladder, outcome-accepted, outcome-refused, refused-when}
+use Rattle.laws.proofs.Words.{table-written, written-sound, length-written, written-written, written-table}
+use Rattle.laws.proofs.Calls.{outcome-accepted}
 use Rattle.laws.proofs.Trips.{loaded-saved}
-use Rattle.laws.proofs.Loads.{in-room, from-save-is, from-save-in, load-accepts}
+use Rattle.laws.proofs.Loads.{in-room, from-save-is, from-save-in}
+use Rattle.demands.specs.Record.{Words32, Accepted}
+use Rattle.demands.specs.Standing.{left}
+use Rattle.demands.specs.Refuses.{NotSaved, lines, HoldsIn}
+use Rattle.demands.specs.Saving.{Writes, UndoEachOther}
+use Rattle.demands.proofs.Accepted.{accepted-none, made, by-move}
+use Rattle.demands.proofs.Lasting.{long, made-lasting}
+use Rattle.demands.proofs.Standing.{sound-kept, words-kept, standing}
+use Rattle.demands.proofs.Demand1.{demand1}
 
 -- ACCEPTED
 
--- A call that gives an answer is not refused.
-not-refused : (c : Call) {values : List ℕ} → outcome c .answer ≡ Answer.gives values → NoneGiven (refusals c)
-not-refused c {values} e =
-    by-ladder (refusals c) (λ h. h) (λ k g.
-    let f : Answer.refuses k ≡ Answer.gives values = ap (λ o. o .answer) (sym (outcome-refused c k g)) ∙ e in
-    let z : _≡_ {A = ℕ} 0 1 = cc in
-    absurd (omega arith))
-
-not-false : (b : Bool) → not b ≡ false → So b
-not-false true e = refl
-not-false false e = sym e
-
-so-not : (b : Bool) → So b → not b ≡ false
-so-not b h = ap not h
-
--- Save is accepted exactly for a sound record of 7 words and a run with room.
-pub record Saves (words room : List ℕ) : Type 0 where
-  pub long : 7 ≤ length words
-  pub sound : Sound words
-  pub fits : length (saved (tableOf words)) ≤ length room
+-- Save is accepted exactly for a sound record and a run with room.
+record Saves (words room : List ℕ) : Type 0 where
+  sound : Sound words
+  fits : length (saved (tableOf words)) ≤ length room
 
 module _ (words room : List ℕ) where
-  pub save-out : {values : List ℕ} → outcome (Call.Save words room) .answer ≡ Answer.gives values → Saves words room
+  save-out : Accepted (Call.Save words room) → Saves words room
   unfolding refusals NoneGiven
-  save-out e =
-      let h = not-refused (Call.Save words room) e in
-      record { long = ltb-false _ _ (h .0); sound = sound-is words .0 (not-false _ (h .1 .0)); fits = ltb-false _ _ (h .1 .1 .0) }
+  save-out a =
+      let h = accepted-none (Call.Save words room) a in
+      record { sound = sound-is words .0 (not-false _ (h .1 .0)); fits = ltb-false _ _ (h .1 .1 .0) }
 
-  pub save-in : Saves words room → outcome (Call.Save words room) ≡ (length (saved (tableOf words)) ∷ [] leaving put room 0 (saved (tableOf words)) ∷ [])
+  save-in : Saves words room → Writes words room (saved (tableOf words))
   unfolding refusals NoneGiven accepted
   save-in s =
       outcome-accepted (Call.Save words room)
-      (le-ltb _ _ (s .long), (so-not _ (sound-is words .1 (s .sound)), (le-ltb _ _ (s .fits), tt)))
+      (le-ltb _ _ (long words (s .sound)), (ap not (sound-is words .1 (s .sound)), (le-ltb _ _ (s .fits), tt)))
 
 -- Load is accepted exactly for a run of 7 words, bytes of Save and room for the rows.
-pub record Loads (words bytes : List ℕ) : Type 0 where
-  pub long : 7 ≤ length words
-  pub from : So (fromSave? bytes)
-  pub fits : length (loaded bytes .rows) ≤ capacity words
+record Loads (words bytes : List ℕ) : Type 0 where
+  seven : 7 ≤ length words
+  from : So (fromSave? bytes)
+  fits : length (loaded bytes .rows) ≤ capacity words
 
 module _ (words bytes : List ℕ) where
-  pub load-out : {values : List ℕ} → outcome (Call.Load words bytes) .answer ≡ Answer.gives values → Loads words bytes
+  load-out : Accepted (Call.Load words bytes) → Loads words bytes
   unfolding refusals NoneGiven
-  load-out e =
-      let h = not-refused (Call.Load words bytes) e in
-      record { long = ltb-false _ _ (h .0); from = not-false _ (h .1 .0); fits = ltb-false _ _ (h .1 .1 .0) }
+  load-out a =
+      let h = accepted-none (Call.Load words bytes) a in
+      record { seven = ltb-false _ _ (h .0); from = not-false _ (h .1 .0); fits = ltb-false _ _ (h .1 .1 .0) }
 
-  pub load-in : Loads words bytes → outcome (Call.Load words bytes) ≡ (length (loaded bytes .rows) ∷ [] leaving written words (loaded bytes) ∷ [])
+  load-in : Loads words bytes → outcome (Call.Load words bytes) ≡ (length (loaded bytes .rows) ∷ [] leaving written words (loaded bytes) ∷ [])
   unfolding refusals NoneGiven accepted
-  load-in s = outcome-accepted (Call.Load words bytes) (le-ltb _ _ (s .long), (so-not _ (s .from), (le-ltb _ _ (s .fits), tt)))
+  load-in s = outcome-accepted (Call.Load words bytes) (le-ltb _ _ (s .seven), (ap not (s .from), (le-ltb _ _ (s .fits), tt)))
 
 -- THERE AND BACK
 
--- The first of the lent runs after a call.
-abbrev pub left : Call → List ℕ
-left c = getD (outcome c .lent) 0 []
-
+-- Bytes written into a run are its first.
 take-put : (bytes room : List ℕ) → length bytes ≤ length room → take (length bytes) (put room 0 bytes) ≡ bytes
 unfolding put
 take-put bytes room l = ap (take (length bytes)) (sets-eq bytes room 0 (omega arith)) ∙ take-at bytes (drop (0 + length bytes) room) (length bytes) refl
 
--- The bytes that Save left, as many as it answered, are those of the table.
-bytes-left : (words room : List ℕ) (n : ℕ) → outcome (Call.Save words room) .answer ≡ Answer.gives (n ∷ []) → take n (left (Call.Save words room)) ≡ saved (tableOf words)
-bytes-left words room n e =
-    let s = save-out words room e in
-    let o = save-in words room s in
-    let m : n ≡ length (saved (tableOf words)) = ap (λ a. getD (given a) 0 0) (sym e ∙ ap (λ o. o .answer) o) in
-    rw m (ap (λ o. take (length (saved (tableOf words))) (getD (o .lent) 0 [])) o ∙ take-put (saved (tableOf words)) room (s .fits))
-  where
-    given : Answer → List ℕ
-    given (Answer.refuses k) = []
-    given (Answer.gives values) = values
+-- The bytes that Save writes are those of a sound table.
+written-bytes : (words room bytes : List ℕ) → Writes words room bytes → Sound words × (bytes ≡ saved (tableOf words))
+written-bytes words room bytes e =
+    let s = save-out words room (length bytes ∷ [], ap (λ o. o .answer) e) in
+    let both = sym e ∙ save-in words room s in
+    let answers : Answer.gives (length bytes ∷ []) ≡ Answer.gives (length (saved (tableOf words)) ∷ []) = ap (λ o. o .answer) both in
+    let n : length bytes ≡ length (saved (tableOf words)) = cc in
+    let runs : put room 0 bytes ≡ put room 0 (saved (tableOf words)) = ap (λ o. getD (o .lent) 0 []) both in
+    (s .sound, sym (take-put bytes room (rw n (s .fits))) ∙ ap₂ take n runs ∙ take-put (saved (tableOf words)) room (s .fits))
 
--- Load of what Save wrote, into any run with room, whatever it held: accepted, and the same table again.
-pub load-saved : {room : ℕ} (words : List ℕ) (t : Table) → SoundTable room t → room ≤ 512 → 7 ≤ length words → length (t .rows) ≤ capacity words →
-    outcome (Call.Load words (saved t)) ≡ (length (t .rows) ∷ [] leaving written words t ∷ [])
-load-saved words t s most long fits =
-    let back = loaded-saved t s in
-    load-in words (saved t) (record { long = long; from = from-save-in t (in-room 512 s (omega (arith, s .s1 .fits))); fits = rw back fits })
-    ∙ ap (λ u. length (u .rows) ∷ [] leaving written words u ∷ []) back
+-- Load of what Save wrote, into any record with room for the rows, writes the same table.
+load-writes : (words room bytes other : List ℕ) → Writes words room bytes → length (rowsOf words) ≤ capacity other →
+    outcome (Call.Load other bytes) ≡ (length (rowsOf words) ∷ [] leaving written other (tableOf words) ∷ [])
+load-writes words room bytes other e fits =
+    let s = written-bytes words room bytes e in
+    let t = s .0 .table in
+    let back : loaded bytes ≡ tableOf words = ap loaded (s .1) ∙ loaded-saved (tableOf words) t in
+    let from : So (fromSave? bytes) = rw (s .1) (from-save-in (tableOf words) (in-room 512 t (omega (arith, t .s1 .fits)))) in
+    subst (λ u. outcome (Call.Load other bytes) ≡ (length (u .rows) ∷ [] leaving written other u ∷ [])) back
+    (load-in other bytes (record { seven = omega (arith, t .s1 .some); from = from; fits = rw back fits }))
 
-pub load-save : (words room words' : List ℕ) (n : ℕ) → outcome (Call.Save words room) .answer ≡ Answer.gives (n ∷ []) →
-    7 ≤ length words' → length (rowsOf words) ≤ capacity words' →
-    (outcome (Call.Load words' (take n (left (Call.Save words room)))) ≡ (length (rowsOf words) ∷ [] leaving written words' (tableOf words) ∷ []))
-    × (tableOf (written words' (tableOf words)) ≡ tableOf words)
-load-save words room words' n e long fits =
-    rw (bytes-left words room n e)
-    (load-saved words' (tableOf words) (save-out words room e .sound .table) (omega arith) long fits, table-written words' (tableOf words) (omega arith) fits)
-
--- Save of what Load made: the bytes again.
-pub save-load : (words bytes room : List ℕ) (n : ℕ) → outcome (Call.Load words bytes) .answer ≡ Answer.gives (n ∷ []) → length bytes ≤ length room →
-    outcome (Call.Save (left (Call.Load words bytes)) room) ≡ (length bytes ∷ [] leaving put room 0 bytes ∷ [])
-save-load words bytes room n e fits =
-    let l = load-out words bytes e in
+-- What Load leaves is a sound record, and the bytes are its own.
+load-leaves : (words bytes : List ℕ) → Accepted (Call.Load words bytes) → Sound (left (Call.Load words bytes)) × (saved (tableOf (left (Call.Load words bytes))) ≡ bytes)
+load-leaves words bytes a =
+    let l = load-out words bytes a in
     let s = from-save-is bytes .0 (l .from) in
-    let w = written words (loaded bytes) in
-    let t : saved (tableOf w) ≡ bytes = ap saved (table-written words (loaded bytes) (omega (arith, l .long)) (l .fits)) ∙ s .1 in
-    let ok : Saves w room =
+    let three : 3 ≤ length words = omega (arith, l .seven) in
+    subst (λ w. Sound w × (saved (tableOf w) ≡ bytes)) (sym (ap (λ o. getD (o .lent) 0 []) (load-in words bytes l)))
+    (written-sound words (loaded bytes) three (in-room _ (s .0) (l .fits)), ap saved (table-written words (loaded bytes) three (l .fits)) ∙ s .1)
+
+-- Save writes them again into a run with room.
+save-left : (words bytes : List ℕ) → Accepted (Call.Load words bytes) → (room : List ℕ) → length bytes ≤ length room → Writes (left (Call.Load words bytes)) room bytes
+save-left words bytes a room fits =
+    let r = load-leaves words bytes a in
+    subst (Writes _ room) (r .1) (save-in _ room (record { sound = r .0; fits = rw (r .1) fits }))
+
+-- A table written after moves is the table written before: moves keep the length and what stands past the rows.
+module _ (t : Table) where
+  after-move : (words : List ℕ) → Words32 words → Sound words → length (t .rows) ≤ capacity words → (m : Move) →
+      (length (after words m) ≡ length words) × (written (after words m) t ≡ written words t)
+  after-move words wide s fits m =
+      let l = long words s in
+      by-move words m
+      (λ h e.
+      let u = made (tableOf words) m in
+      (ap length e ∙ length-written words u, ap (λ w. written w t) e ∙ written-written words u (omega arith) (made-lasting words wide s m h .sound .s1 .fits) t fits))
+      (λ e. (ap length e, ap (λ w. written w t) e))
+
+  after-moves : (moves : List Move) (words : List ℕ) → Words32 words → Sound words → length (t .rows) ≤ capacity words →
+      (length (run words moves) ≡ length words) × (written (run words moves) t ≡ written words t)
+  unfolding run
+  after-moves [] words wide s fits = (refl, refl)
+  after-moves (m ∷ moves) words wide s fits =
+      let a = after-move words wide s fits m in
+      let b = after-moves moves (after words m) (words-kept words wide s m) (sound-kept words wide s m) (rw (a .0) fits) in
+      (b .0 ∙ a .0, b .1 ∙ a .1)
+
+-- "Saving and loading undo each other, and loading accepts only bytes that saving writes."
+pub undo-each-other : UndoEachOther
+unfolding lines HoldsIn
+undo-each-other =
     record {
-      long = rw length-written (l .long);
-      sound = written-sound words (loaded bytes) (omega (arith, l .long)) (in-room (capacity words) (s .0) (l .fits));
-      fits = rw t fits;
-    } in
-    ap (λ o. outcome (Call.Save (getD (o .lent) 0 []) room)) (load-in words bytes l) ∙ save-in w room ok ∙ ap (λ b. length b ∷ [] leaving put room 0 b ∷ []) t
-
--- Load into the run that was saved, whatever the calls made of its table meanwhile: each word as it was.
-pub load-back : (words room : List ℕ) (n : ℕ) (meanwhile : Table) → outcome (Call.Save words room) .answer ≡ Answer.gives (n ∷ []) →
-    length (meanwhile .rows) ≤ capacity words →
-    left (Call.Load (written words meanwhile) (take n (left (Call.Save words room)))) ≡ words
-load-back words room n meanwhile e fits =
-    let s = save-out words room e in
-    let long : 7 ≤ length (written words meanwhile) = rw length-written (s .long) in
-    let mine : length (rowsOf words) ≤ capacity words = s .sound .table .s1 .fits in
-    ap (λ o. getD (o .lent) 0 []) (load-save words room (written words meanwhile) n e long (rw length-written mine) .0)
-    ∙ written-written words meanwhile (omega (arith, s .long)) fits (tableOf words) mine ∙ written-table words (s .sound)
-
--- ONLY BYTES THAT SAVING WRITES
-
--- A sound record whose next numbers are 32-bit has only 32-bit words.
-rows-words : {room : ℕ} (t : Table) → SoundTable room t → t .nextDoc ≤ none → t .nextFrame ≤ none → (i : ℕ) → i < length (t .rows) →
-    (docAt (t .rows) i ≤ none) × (frameAt (t .rows) i ≤ none) × (parentAt (t .rows) i ≤ none) × (shownAt (t .rows) i ≤ none)
-rows-words t s d f i l =
-    let tree = tree-of s d in
-    let doc : (j : ℕ) → j < length (t .rows) → docAt (t .rows) j ≤ none = λ j m. omega (arith, tree .below j m) in (
-      doc i l,
-      omega (arith, s .s3 .below i l),
-      ⊎-elim (λ e. omega arith) (λ j. omega (arith, doc (j .0) (omega (arith, j .1)), j .2)) (s .s4 .placed i l),
-      omega (arith, s .s6 .bit i l),
-    )
-
-by-four : (P : ℕ → Type 0) (i k : ℕ) → 3 + 4 * i ≤ k → k < 7 + 4 * i → P (3 + 4 * i) → P (4 + 4 * i) → P (5 + 4 * i) → P (6 + 4 * i) → P k
-by-four P i k l m a b c d =
-    by-lt k (4 + 4 * i) (λ n. let e : 3 + 4 * i ≡ k = omega arith in subst P e a) (λ n.
-    by-lt k (5 + 4 * i) (λ o. let e : 4 + 4 * i ≡ k = omega arith in subst P e b) (λ o.
-    by-lt k (6 + 4 * i) (λ p. let e : 5 + 4 * i ≡ k = omega arith in subst P e c) (λ p. let e : 6 + 4 * i ≡ k = omega arith in subst P e d)))
-
-words-words : (w : List ℕ) → Sound w → tableOf w .nextDoc ≤ none → tableOf w .nextFrame ≤ none → (k : ℕ) → k < 3 + 4 * capacity w → getD w k 0 ≤ none
-words-words w s d f zero l = omega (arith, rows-length w, s .table .s1 .fits)
-words-words w s d f (suc zero) l = rw (next-doc-in w) d
-words-words w s d f (suc (suc zero)) l = rw (next-frame-in w) f
-words-words w s d f (suc (suc (suc k))) l =
-    by-lt (k / 4) (length (rowsOf w))
-    (λ m.
-    let r = rows-words (tableOf w) (s .table) d f (k / 4) m in
-    by-four (λ k. getD w k 0 ≤ none) (k / 4) (suc (suc (suc k))) (omega arith) (omega arith)
-    (rw (doc-in w (k / 4) m) (r .0)) (rw (frame-in w (k / 4) m) (r .1)) (rw (parent-in w (k / 4) m) (r .2)) (rw (shown-in w (k / 4) m) (r .3)))
-    (λ m. let n = rows-length w in omega (arith, s .s8 .zeros (suc (suc (suc k))) (omega arith) l))
-
--- A run of numbers below a bound.
-abbrev pub Within : ℕ → List ℕ → Type 0
-Within top xs = (k : ℕ) → k < length xs → getD xs k 0 ≤ top
-
--- Bytes that Save would write "for some sound record of at most 512 rows".
-abbrev pub SavedBySome : List ℕ → Type 0
-SavedBySome bytes = (w : List ℕ) × Sound w × Within none w × (saved (tableOf w) ≡ bytes)
-
-from-some : (bytes : List ℕ) → Within 255 bytes → So (fromSave? bytes) ↔ SavedBySome bytes
-from-some bytes small = (
-  λ h.
-      let u = load-accepts bytes small .0 h in
-      let blank : List ℕ = replicate 2051 0 in
-      let c : length blank ≡ 2051 = length-replicate {A = ℕ} 2051 0 in
-      let w = written blank (u .0) in
-      let s = written-sound blank (u .0) (omega arith) (in-room (capacity blank) (u .1) (omega (arith, u .1 .s1 .fits))) in
-      let t : tableOf w ≡ u .0 = table-written blank (u .0) (omega arith) (omega (arith, u .1 .s1 .fits)) in
-      let e : length w ≡ length blank = length-written blank (u .0) in
-      (w, s, λ k l. words-words w s (rw t (u .2)) (rw t (u .3)) k (omega arith), ap saved t ∙ u .4),
-  λ w. subst (λ b. So (fromSave? b)) (w .3) (from-save-in (tableOf (w .0)) (in-room 512 (w .1 .table) (omega (arith, w .1 .table .s1 .fits)))),
-)
-
--- Load gives refusal 3 exactly to other bytes, where the run has 7 words.
-pub load-only : (words bytes : List ℕ) → 7 ≤ length words → Within 255 bytes →
-    (outcome (Call.Load words bytes) .answer ≡ Answer.refuses 3) ↔ (SavedBySome bytes → ⊥)
-unfolding refusals Given
-load-only words bytes long small = (
-  λ e w.
-      ⊎-elim
-      (λ g. let z : length words < 7 = ltb-true (length words) 7 (g .0) in omega arith)
-      (λ g. ⊎-elim
-      (λ h. clash (from-some bytes small .1 w) (off _ (λ b. clash (h .0) (so-not _ b))))
-      (λ h. ⊎-elim (λ k. let z : 7 ≡ 3 = k .1 in omega arith) (λ k. k .1) (h .1)) (g .1))
-      (refused-when (Call.Load words bytes) 3 .0 e),
-  λ none. refused-when (Call.Load words bytes) 3 .1 (inr (le-ltb _ _ long, inl (ap not (off _ (λ b. none (from-some bytes small .0 b))), refl))),
-)
+      load-save = λ words room bytes other e fits.
+          let o = load-writes words room bytes other e fits in
+          let some = written-bytes words room bytes e .0 .table .s1 .some in
+          ((_, ap (λ o. o .answer) o), ap (λ o. tableOf (getD (o .lent) 0 [])) o ∙ table-written other (tableOf words) (omega arith) fits);
+      load-back = λ words room bytes moves wide e.
+          let s = written-bytes words room bytes e .0 in
+          let fits = s .table .s1 .fits in
+          let a = after-moves (tableOf words) moves words wide s fits in
+          ap (λ o. getD (o .lent) 0 []) (load-writes words room bytes (run words moves) e (rw (a .0) fits)) ∙ a .1 ∙ written-table words s;
+      save-load = λ words bytes room a fits. save-left words bytes a room fits;
+      accepts-only = λ words bytes wide b a. (left (Call.Load words bytes), bytes, standing .load words bytes wide b a, save-left words bytes a bytes (omega arith));
+      refuses-others = λ words bytes seven.
+          let exact = demand1 (Call.Load words bytes) .exactly 3 in (
+            λ e. ⊎-elim (λ x. omega (arith, x .1)) (⊎-elim (λ x. x .1) (⊎-elim (λ x. omega (arith, x .0)) (λ x. absurd x))) (exact .0 e .0),
+            λ n. exact .1 (inr (inl (refl, n)), λ j less. ⊎-elim (λ x. omega (arith, x .1)) (⊎-elim (λ x. omega (arith, x .0)) (⊎-elim (λ x. omega (arith, x .0)) (λ x. x)))),
+          );
+    }

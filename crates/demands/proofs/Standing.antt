@@ -1,7 +1,6 @@
 -- A record begins sound and stays sound, and its words 32-bit. Assumes nothing.
 use Prim.Native.Nat.{ℕ, _+_, _≤_}
 use mathlib.Core.List.{List, [], _∷_}
-use mathlib.Core.Bool.{So, and-eq-true-iff}
 use mathlib.Core.Path.{refl, sym, ap, subst}
 use native.Mathlib.Omega.{arith}
 use lib.ListN.{length, getD}
@@ -12,11 +11,12 @@ use Rattle.rules.specs.Steps.{step, reach}
 use Rattle.rules.specs.Moves.{freshTable}
 use Rattle.rules.specs.Words.{capacity, tableOf, written}
 use Rattle.rules.specs.Sound.{SoundTable, soundTable?, Sound}
-use Rattle.rules.specs.Saved.{numberAt, loaded, fromSave?}
+use Rattle.rules.specs.Saved.{numberAt, loaded}
 use Rattle.rules.specs.Calls.{Call, refusals, accepted, NoneGiven}
 use Rattle.rules.specs.Runs.{Move, after, run}
 use Rattle.laws.proofs.Words.{written-sound}
 use Rattle.laws.proofs.Reflect.{sound-table-is}
+use Rattle.laws.proofs.Loads.{in-room, from-save-is}
 use Rattle.laws.proofs.Calls.{outcome-accepted}
 use Rattle.demands.specs.Record.{Words32, Bytes, Accepted}
 use Rattle.demands.specs.Standing.{Stands, left, Standing}
@@ -49,10 +49,6 @@ run-kept (m ∷ moves) words wide s = run-kept moves (after words m) (words-kept
 
 -- A RECORD BEGINS SOUND
 
--- A sound table in another room.
-refit : {room other : ℕ} {t : Table} → SoundTable room t → length (t .rows) ≤ other → SoundTable other t
-refit s l = record { s1 = record { some = s .s1 .some; fits = l }; s2 = s .s2; s3 = s .s3; s4 = s .s4; s5 = s .s5; s6 = s .s6; s7 = s .s7 }
-
 written-stands : (words : List ℕ) (t : Table) → Words32 words → 3 ≤ length words → Lasting (capacity words) t → Stands (written words t)
 written-stands words t wide l h = (written-wide words t wide l h, written-sound words t l (h .sound))
 
@@ -66,20 +62,19 @@ fresh-stands words wide a =
     let h = accepted-none (Call.Fresh words) a in
     let l : 7 ≤ length words = ltb-false _ _ (h .0) in
     subst Stands (sym (ap (λ o. getD (o .lent) 0 []) (outcome-accepted (Call.Fresh words) h)))
-    (written-stands words freshTable wide (omega arith) (record { sound = refit fresh-sound (omega arith); doc = omega arith; frame = omega arith }))
+    (written-stands words freshTable wide (omega arith) (record { sound = in-room _ fresh-sound (omega arith); doc = omega arith; frame = omega arith }))
 
 number-wide : (bytes : List ℕ) → Bytes bytes → (k : ℕ) → numberAt bytes k ≤ none
 number-wide bytes b k = let p = b k in let q = b (k + 1) in let r = b (k + 2) in let s = b (k + 3) in omega arith
 
 load-stands : (words bytes : List ℕ) → Words32 words → Bytes bytes → Accepted (Call.Load words bytes) → Stands (left (Call.Load words bytes))
-unfolding refusals NoneGiven accepted fromSave? loaded
+unfolding refusals NoneGiven accepted loaded
 load-stands words bytes wide b a =
     let h = accepted-none (Call.Load words bytes) a in
     let l : 7 ≤ length words = ltb-false _ _ (h .0) in
-    let t : So (fromSave? bytes) = not-false _ (h .1 .0) in
     subst Stands (sym (ap (λ o. getD (o .lent) 0 []) (outcome-accepted (Call.Load words bytes) h)))
     (written-stands words (loaded bytes) wide (omega arith) (record {
-      sound = refit (sound-table-is 512 (loaded bytes) .0 ((simp and-eq-true-iff at t) .0)) (ltb-false _ _ (h .1 .1 .0));
+      sound = in-room _ (from-save-is bytes .0 (not-false _ (h .1 .0)) .0) (ltb-false _ _ (h .1 .1 .0));
       doc = number-wide bytes b 4;
       frame = number-wide bytes b 8;
     }))

@@ -21,8 +21,9 @@ use Rattle.laws.proofs.Append.{step-agree, length-snoc, snoc-old, append-at}
 use Rattle.laws.proofs.Removal.{SoundRows, cleared-steps}
 use Rattle.laws.proofs.Travel.{walked-at}
 use Rattle.laws.proofs.Navigate.{arrival, opened-at, navigated-at, arrived-steps}
+use Rattle.laws.proofs.Accepted.{open-relies, navigate-relies}
 use Rattle.demands.specs.Record.{Words32}
-use Rattle.demands.proofs.Accepted.{open-relies, navigate-relies, go-relies, made, by-move}
+use Rattle.demands.proofs.Accepted.{go-relies, made, by-move}
 use Rattle.demands.proofs.Lasting.{lasting, lasting-rows, table-after}
 use Rattle.demands.proofs.Seen.{seen-append, seen-cleared}
 

@@ -1,5 +1,5 @@
 -- Demand 2: "Navigating and traversing give the record that the fully patched model of source document 001 gives, with the readings that
--- document 01 settles."
+-- document 01 settles. [..] Saving and loading undo each other, and loading accepts only bytes that saving writes."
 use Prim.Native.Nat.{ℕ, _≤_, _<_}
 use mathlib.Core.List.{List}
 use mathlib.Core.Logic.{_↔_}
@@ -14,6 +14,7 @@ use Rattle.rules.specs.Sound.{Sound}
 use Rattle.rules.specs.Calls.{Answer, outcome}
 use Rattle.rules.specs.Runs.{Move, on, after}
 use Rattle.demands.specs.Record.{Words32, Accepted}
+use Rattle.demands.specs.Saving.{UndoEachOther}
 use Rattle.demands.specs.Model.{History, IsHistory, Root, FA, JointFuture, navigating, Same, Traverses, WellFormed}
 
 -- n places with their documents, frames, parents and marks, as a history: "Row order is chronological order." "A frame is the source's session,
@@ -60,6 +61,10 @@ pub record FollowsModel (words : List ℕ) : Type 1 where
   pub beyond : (δ : ℤ) (room : List ℕ) → outcome (on words (Move.goes δ room)) .answer ≡ Answer.refuses 6 →
       (K : History) → Traverses δ (historyOf words) K → ⊥
 
--- Every sound record of 32-bit words.
-abbrev pub Demand2 : Type 1
-Demand2 = (words : List ℕ) → Words32 words → Sound words → FollowsModel words
+-- The demand between these two, "Opening, which that model lacks, and every answer are as document 01 defines them", is `outcome` of `rules`, which
+-- each call promises.
+pub record Demand2 : Type 1 where
+  -- Every sound record of 32-bit words: "Navigating and traversing give the record that the fully patched model [..] gives".
+  pub model : (words : List ℕ) → Words32 words → Sound words → FollowsModel words
+  -- "Saving and loading undo each other, and loading accepts only bytes that saving writes."
+  pub saving : UndoEachOther

@@ -1,7 +1,9 @@
 -- What the demands say, in the customer's words and the paper's; `proofs` has each as a theorem. Read in this order.
 pub mod Record
 pub mod Standing
+pub mod Past
 pub mod Refuses
+pub mod Saving
 pub mod Model
 pub mod Follows
 pub mod Note

@@ -1,18 +1,21 @@
--- "Readings that look right": two claims that document 01 says are false, and beside the first the one that holds instead.
-use Prim.Native.Nat.{ℕ}
+-- "Readings that look right": claims that are false, and beside two of them the one that holds instead.
+use Prim.Native.Nat.{ℕ, _≤_, _<_}
 use mathlib.Core.List.{List, [], _∷_, _++_}
+use mathlib.Core.Logic.{_⊎_}
 use mathlib.Core.Bool.{Bool, So, _&&_}
 use mathlib.Core.Path.{_≡_}
 use lib.IntN.{pos, negℤ}
 use lib.ListN.{length}
 use Rattle.rules.specs.Below.{gather}
-use Rattle.rules.specs.Rows.{Row, Table, docAt, frameAt, parentAt, isShown, inFrame, place}
-use Rattle.rules.specs.Steps.{upcoming, visible}
-use Rattle.rules.specs.Moves.{without, hide}
+use Rattle.rules.specs.Rows.{Row, Table, none, docAt, frameAt, parentAt, isShown, inFrame, place}
+use Rattle.rules.specs.Steps.{upcoming, position, visible}
+use Rattle.rules.specs.Moves.{without, hide, back}
 use Rattle.rules.specs.Words.{rowsOf}
 use Rattle.rules.specs.Sound.{S7, SoundTable, Sound}
 use Rattle.rules.specs.Runs.{Move, on, after}
 use Rattle.demands.specs.Record.{Words32, Accepted}
+use Rattle.demands.specs.Model.{History, Future, FA, JointPast, NextBefore, traversingTo, Same}
+use Rattle.demands.specs.Follows.{ofRows}
 
 -- The shown set.
 abbrev pub shownSet : List Row → List ℕ
@@ -44,3 +47,30 @@ unpatched t d =
 -- "Clearing only the navigated frame's future": that it keeps S7.
 abbrev pub OwnFutureEnough : Type 0
 OwnFutureEnough = (room : ℕ) (t : Table) (d : ℕ) → SoundTable room t → So (visible (t .rows) d) → S7 (unpatched t d)
+
+-- "Counting only visible documents' futures", 001 before patch 2, "the joint session future is {e | ∃ d ∈ FA : d ≲ e}": that every upcoming step
+-- is in it.
+abbrev pub VisibleFuturesEnough : Type 0
+VisibleFuturesEnough =
+    (room : ℕ) (t : Table) (i : ℕ) → SoundTable room t → i < length (t .rows) → So (upcoming (t .rows) i) →
+    (d : ℕ) × FA (ofRows (t .rows)) d × Future (ofRows (t .rows)) d (docAt (t .rows) i)
+
+-- That Back, wherever a step is taken, is "H traverses the history by -1 to H'" in a reading of that. In the model's own, `Backward 1`, it is.
+abbrev pub BackIs : (History → History → Type 0) → Type 0
+BackIs reading = (room : ℕ) (t : Table) → SoundTable room t → t .nextDoc ≤ none → 1 ≤ position (t .rows) → reading (ofRows (t .rows)) (ofRows (back (t .rows)))
+
+-- d is the d₁ of "d₁ > ⋯ > d_δ > ⋯".
+abbrev pub Latest : History → (ℕ → Type 0) → ℕ → Type 0
+Latest H P d = P d × ((e : ℕ) → P e → H .le e d)
+
+-- "Going back to the latest document of the past, rather than from the latest shown one", 001 before patch 3.
+abbrev pub ToLatestPast : History → History → Type 0
+ToLatestPast H K = (d : ℕ) × Latest H (JointPast H) d × Same (traversingTo H d) K
+
+-- Patch 3's list as 001 has it, "the joint session past and active documents", those that can't go back among them.
+abbrev pub FromLatestOfAll : History → History → Type 0
+FromLatestOfAll H K = (d' d : ℕ) × Latest H (λ e. JointPast H e ⊎ H .A e) d' × NextBefore H d' d × Same (traversingTo H d) K
+
+-- To the first document of a session instead of the one next before.
+abbrev pub ToFirst : History → History → Type 0
+ToFirst H K = (d' d : ℕ) × Future H d d' × ((e : ℕ) → Future H e d' → H .le d e) × Same (traversingTo H d) K

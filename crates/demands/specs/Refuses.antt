@@ -13,7 +13,7 @@ use Rattle.rules.specs.Moves.{cleared, changes}
 use Rattle.rules.specs.Words.{capacity, tableOf, rowsOf}
 use Rattle.rules.specs.Sound.{Sound}
 use Rattle.rules.specs.Asks.{takenList, upcomingList, ownList, outlineOf}
-use Rattle.rules.specs.Saved.{saved, loaded, fromSave?}
+use Rattle.rules.specs.Saved.{saved, loaded}
 use Rattle.rules.specs.Calls.{Call, Answer, lentTo, outcome}
 
 -- "1: record under 7 words"
@@ -24,9 +24,13 @@ Short words = length words < 7
 abbrev pub Unsound : List ℕ → Type 0
 Unsound words = Sound words → ⊥
 
+-- "bytes that Save would write for some sound record of at most 512 rows": no sound record has more (S1).
+abbrev pub SavedBySome : List ℕ → Type 0
+SavedBySome bytes = (words : List ℕ) × Sound words × (saved (tableOf words) ≡ bytes)
+
 -- "3: saved bytes are not such bytes"
 abbrev pub NotSaved : List ℕ → Type 0
-NotSaved bytes = fromSave? bytes ≡ false
+NotSaved bytes = SavedBySome bytes → ⊥
 
 -- The document of row i is d.
 abbrev pub StandsAt : List ℕ → ℕ → ℕ → Type 0

@@ -19,10 +19,10 @@ use Rattle.rules.specs.Calls.{Call, Answer, refusals, accepted, outcome, NoneGi
 use Rattle.laws.proofs.Tests.{test}
 use Rattle.laws.proofs.Calls.{by-ladder, outcome-accepted, outcome-refused}
 use Rattle.laws.proofs.Central.{position-steps}
+use Rattle.laws.proofs.Reflect.{sound-is}
 use Rattle.laws.proofs.Standing.{steps-most}
 use Rattle.laws.proofs.Lists.{taken-length, upcoming-length}
 use Rattle.laws.proofs.Trips.{saved-length, frames-few}
-use Rattle.sound.proofs.Checks.{examined-sound, examined-fits}
 use Rattle.laws.proofs.Outlines.{outline-bound}
 use Rattle.traverses.specs.declared.Traversed.{Traversed}
 use Rattle.traverses.specs.declared.Traversed.the-variants.{Changes, Refused}
@@ -53,7 +53,7 @@ module _ (words : List ℕ) (a : Answer) (runs : List (List ℕ)) where
   position-small p s l e g =
       let h = not-refused (Call.Position words) a runs _ e g in
       let v = given-is (Call.Position words) a runs _ e g in
-      let m = examined-fits words (record { long = h .0; passes = not-false _ (h .1 .0) }) in
+      let m = sound-is words .0 (not-false _ (h .1 .0)) .table .s1 .fits in
       let x : position (rowsOf words) ≡ p = ap (value 0) v in
       let y : steps (rowsOf words) ≡ s = ap (value 1) v in
       let z : steps (rowsOf words) ≡ l = ap (value 2) v in
@@ -67,7 +67,7 @@ module _ (words : List ℕ) (a : Answer) (runs : List (List ℕ)) where
   lists-small takens upcomings t u e g =
       let h = not-refused (Call.Lists words takens upcomings) a runs _ e g in
       let v = given-is (Call.Lists words takens upcomings) a runs _ e g in
-      let s = examined-sound words (record { long = h .0; passes = not-false _ (h .1 .0) }) .table in
+      let s = sound-is words .0 (not-false _ (h .1 .0)) .table in
       let m = s .s1 .fits in
       let x : length (takenList (rowsOf words)) ≡ t = ap (value 0) v in
       let y : length (upcomingList (rowsOf words)) ≡ u = ap (value 1) v in
@@ -94,7 +94,7 @@ module _ (words : List ℕ) (a : Answer) (runs : List (List ℕ)) where
       let h = not-refused (Call.Save words room) a runs _ e g in
       let v = given-is (Call.Save words room) a runs _ e g in
       let x : length (saved (tableOf words)) ≡ n = ap (value 0) v in
-      let s = examined-sound words (record { long = h .0; passes = not-false _ (h .1 .0) }) .table in
+      let s = sound-is words .0 (not-false _ (h .1 .0)) .table in
       omega (arith, saved-length (tableOf words) s, frames-few (tableOf words) s, s .s1 .fits)
 
   -- The pairs of the outline.
@@ -104,7 +104,7 @@ module _ (words : List ℕ) (a : Answer) (runs : List (List ℕ)) where
       let h = not-refused (Call.Outline words room) a runs _ e g in
       let v = given-is (Call.Outline words room) a runs _ e g in
       let x : length (outlineOf (tableOf words)) / 2 ≡ n = ap (value 0) v in
-      let s = examined-sound words (record { long = h .0; passes = not-false _ (h .1 .0) }) .table in
+      let s = sound-is words .0 (not-false _ (h .1 .0)) .table in
       omega (arith, outline-bound (tableOf words) _ s w, s .s1 .fits)
 
 -- Four words a change row, and no more rows than frames.
@@ -129,7 +129,7 @@ module _ (words : List ℕ) (a : Answer) (runs : List (List ℕ)) where
       let h = not-refused (Call.Traverse words δ room) a runs _ e g in
       let v = given-is (Call.Traverse words δ room) a runs _ e g in
       let x : length (changes (tableOf words) δ) / 4 ≡ n = ap (value 0) v in
-      let s = examined-sound words (record { long = h .0; passes = not-false _ (h .1 .0) }) .table in
+      let s = sound-is words .0 (not-false _ (h .1 .0)) .table in
       omega (arith, changes-few (tableOf words) δ, frames-few (tableOf words) s, s .s1 .fits)
 
 -- So Traverse's answer can be told.

@@ -17,7 +17,7 @@ pub flag-test : (b : Bool) → eqb (flag b) 1 ≡ b
 flag-test true = refl
 flag-test false = refl
 
-flag-back : (s : ℕ) → s ≤ 1 → flag (eqb s 1) ≡ s
+pub flag-back : (s : ℕ) → s ≤ 1 → flag (eqb s 1) ≡ s
 flag-back s l = test (eqb s 1) (λ t. rw t (sym (eqb-true s 1 t))) (λ f. let ne : s ≢ 1 = eqb-false s 1 f in rw f (omega arith))
 
 module _ (f : ℕ → Bool) (rows : List Row) where

@@ -16,6 +16,7 @@ pub mod Words
 pub mod Loops
 pub mod Standing
 pub mod Calls
+pub mod Accepted
 pub mod Pieces
 pub mod Numbers
 pub mod Told

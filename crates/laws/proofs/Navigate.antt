@@ -14,7 +14,7 @@ use Rattle.rules.specs.Steps.{same, isStep, upcoming, position, steps, visibleA
 use Rattle.rules.specs.Moves.{opened, without, cleared, hide, navigated, show, forward}
 use Rattle.laws.proofs.Tests.{off, count-yes, count-same, count-in}
 use Rattle.laws.proofs.Frames.{step-in, step-out, next-shows, next-due}
-use Rattle.laws.proofs.Flags.{flags-eq}
+use Rattle.laws.proofs.Flags.{flags-length, flags-eq}
 use Rattle.laws.proofs.Central.{flagsAt, central, at-S6, at-S7, position-steps, only-shown, show-at, forward-at}
 use Rattle.laws.proofs.Append.{step-agree, length-snoc, snoc-old, snoc-new, flags-append, append-at}
 use Rattle.laws.proofs.Kept.{kept-row, kept-length}
@@ -25,6 +25,15 @@ use Rattle.laws.proofs.Removal.{SoundRows, stays, cleared-removed, clea
 pub tree-at : (p : ℕ) (rows : List Row) {a b : ℕ} → TreeOf rows a b → TreeOf (flagsAt p rows) a b
 unfolding flagsAt
 tree-at p rows t = tree-flags _ rows t
+
+-- Opening adds a row, and navigating one to those that the clearing leaves.
+pub opened-length : (t : Table) (p : ℕ) → length (opened t p .rows) ≡ suc (length (t .rows))
+unfolding opened
+opened-length t p = length-snoc (t .rows) _
+
+pub navigated-length : (t : Table) (d : ℕ) → length (navigated t d .rows) ≡ suc (length (cleared (t .rows)))
+unfolding navigated hide
+navigated-length t d = length-snoc (hide d (cleared (t .rows))) _ ∙ ap suc (flags-length _ (cleared (t .rows)))
 
 -- Rows at any position are as sound as they were.
 pub sound-at : (p : ℕ) (rows : List Row) {a b : ℕ} → TreeOf rows a b → SoundRows (flagsAt p rows) a b
@@ -77,7 +86,7 @@ module _ (t : Table) (s : SoundRows (t .rows) (t .nextDoc) (t .nextFrame)) (unus
     c = cleared rows
 
     -- d's row stays: its place then.
-    stayed : (k : ℕ) × (k < length c) × (rowAt c k ≡ rowAt rows (place rows d)) × (docAt rows (place rows d) ≡ d) × So (isShown rows (place rows d))
+    pub stayed : (k : ℕ) × (k < length c) × (rowAt c k ≡ rowAt rows (place rows d)) × (docAt rows (place rows d) ≡ d) × So (isShown rows (place rows d))
     unfolding without
     stayed =
         let v = sees-out rows d sees in
@@ -91,7 +100,8 @@ module _ (t : Table) (s : SoundRows (t .rows) (t .nextDoc) (t .nextFrame)) (unus
           ap (isShown rows) e ∙ visible-out rows (v .0) (v .3) .0,
         )
 
-    new-step : So (isStep (c ++ arrival ∷ []) (length c))
+    -- The row that comes is a step.
+    pub new-step : So (isStep (c ++ arrival ∷ []) (length c))
     new-step =
         let k = stayed in
         step-in (frameAt (c ++ arrival ∷ [])) (k .1) (ap (λ r. r .frame) (snoc-old c arrival (k .0) (k .1) ∙ k .2) ∙ ap (λ r. r .frame) (sym (snoc-new c arrival)))

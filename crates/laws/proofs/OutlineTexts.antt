@@ -1,7 +1,7 @@
 -- What is written of a part of the record, frame after frame. Assumes nothing.
 use Prim.Native.Nat.{ℕ, zero, suc, _+_, _-_, _≤_, _<_}
 use mathlib.Core.Bool.{Bool, false, _&&_, So, and-eq-true-iff}
-use mathlib.Core.List.{List, [], _∷_, _++_, append-nil, append-assoc, flatMap}
+use mathlib.Core.List.{List, [], _∷_, _++_, append-nil, flatMap}
 use mathlib.Core.Logic.{⊎-elim}
 use mathlib.Core.Path.{_≡_, refl, sym, ap, _∙_}
 use native.Mathlib.Nat.{eq-or-lt-of-le, not-suc-le-zero}
@@ -17,6 +17,7 @@ use Rattle.rules.specs.Moves.{frames}
 use Rattle.rules.specs.Words.{put}
 use Rattle.rules.specs.Asks.{outlineFrame, outlineOf}
 use Rattle.laws.proofs.Tests.{test, off, clash, some-in}
+use Rattle.laws.proofs.Pieces.{flat-append}
 use Rattle.laws.specs.Outlines.{framesBelow, framesText, documentText}
 use Rattle.laws.specs.Outlines.{under, NoneIn, Best}
 
@@ -42,11 +43,6 @@ module _ (fs : List ℕ) where
   frame-none (r ∷ rows) depth d f n = rw (n 0 (omega arith)) (frame-none rows depth d f (λ i l. n (suc i) (omega arith)))
 
 -- FRAMES ONE AFTER THE OTHER
-
-pub flat-append : (g : ℕ → List ℕ) (xs ys : List ℕ) → flatMap g (xs ++ ys) ≡ flatMap g xs ++ flatMap g ys
-unfolding flatMap
-flat-append g [] ys = refl
-flat-append g (x ∷ xs) ys = ap (λ l. g x ++ l) (flat-append g xs ys) ∙ sym (append-assoc (g x) (flatMap g xs) (flatMap g ys))
 
 module _ (t : Table) (s depth d : ℕ) where
   -- The rows from place s on.

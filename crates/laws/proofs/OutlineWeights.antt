@@ -18,16 +18,12 @@ use Rattle.rules.specs.Sound.{SoundTable}
 use Rattle.laws.proofs.Tests.{test, off, or-false, one-out}
 use Rattle.laws.proofs.Tree.{tree-of, distinct, proper}
 use Rattle.laws.proofs.Climb.{climb-none}
+use Rattle.laws.proofs.Pieces.{sum-same}
 use Rattle.laws.specs.Outlines.{under}
 use Rattle.laws.specs.Outlines.{framesBelow, framesText, documentText}
 use Rattle.laws.proofs.OutlineTexts.{hit, frameText, text-none, below-zero, below-suc, below-skip, outline-code}
 
 -- SUMS
-
-pub sum-same : (f g : ℕ → ℕ) (n : ℕ) → ((k : ℕ) → k < n → f k ≡ g k) → sum f n ≡ sum g n
-unfolding sum
-sum-same f g zero h = refl
-sum-same f g (suc n) h = rw (h n (omega arith), sum-same f g n (λ k l. h k (omega arith)))
 
 -- One of the values is another, in place of 0.
 sum-one : (f : ℕ → ℕ) (v k n : ℕ) → k < n → f k ≡ 0 → sum (λ i. cond (eqb k i) v (f i)) n ≡ v + sum f n

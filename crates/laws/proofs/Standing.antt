@@ -12,7 +12,7 @@ use Rattle.rules.specs.Below.{count, earliest, latest}
 use Rattle.rules.specs.Rows.{Row}
 use Rattle.rules.specs.Steps.{isStep, taken, upcoming, position, steps}
 use Rattle.rules.specs.Sound.{S6, S7}
-use Rattle.laws.proofs.Tests.{test, off, by-lt, some-out, count-zero, count-yes, count-no, count-mono, count-in, count-most, count-full, nth, earliest-is, latest-is}
+use Rattle.laws.proofs.Tests.{test, off, by-lt, some-out, count-zero, count-yes, count-no, count-mono, count-in, count-most, count-full, nth, earliest-is, latest-is, latest-same}
 use Rattle.laws.proofs.Central.{position-steps}
 use Rattle.laws.proofs.Lists.{taken-is, upcoming-is}
 use Rattle.laws.proofs.Loops.{earliest-none}
@@ -36,7 +36,7 @@ unfolding latest
 latest-upto p q zero {e} l same none = let z : e ≡ 0 = omega arith in rw z refl
 latest-upto p q (suc n) {e} l same none =
     ⊎-elim
-    (λ z. rw (z, same n (omega arith), latest-upto p q n {e = n} (omega arith) (λ k a. same k (omega arith)) (λ k a b. absurd (omega arith))) refl)
+    (λ z. rw z (latest-same p q (suc n) (λ k a. same k (omega arith))))
     (λ m. rw (none n (le-of-suc-le-suc m) (omega arith)) (latest-upto p q n (le-of-suc-le-suc m) same (λ k a b. none k a (omega arith))))
     (eq-or-lt-of-le l)
 

@@ -271,6 +271,12 @@ module _ (p : ℕ → Bool) where
       let g = greatest n (k .1) (k .2) in
       rw (latest-is n (g .2) (g .3) (g .4)) (g .2, g .3)
 
+-- Tests that agree on the numbers below n have the same latest one.
+pub latest-same : (p q : ℕ → Bool) (n : ℕ) → ((k : ℕ) → k < n → p k ≡ q k) → latest p n ≡ latest q n
+unfolding latest
+latest-same p q zero h = refl
+latest-same p q (suc n) h = rw (h n (omega arith), latest-same p q n (λ k l. h k (omega arith)))
+
 -- WHAT THEY GIVE
 
 module _ {A : Type 0} where

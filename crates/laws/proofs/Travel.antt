@@ -1,18 +1,20 @@
 -- A traversal by δ that is not refused is the rows at position + δ. Assumes nothing.
-use Prim.Native.Nat.{ℕ, suc, _+_, _-_, _≤_}
+use Prim.Native.Nat.{ℕ, zero, suc, _+_, _-_, _≤_}
 use mathlib.Core.Path.{_≡_, refl, sym, ap, _∙_}
 use mathlib.Core.List.{List}
 use mathlib.Core.Bool.{false}
 use native.Mathlib.Omega.{arith}
 use lib.Dec.{ltb}
 use lib.IntN.{ℤ, pos, negsuc, _+ℤ_}
+use lib.ListN.{length}
 use borrow.Author.Tests.{ltb-false}
 use Rattle.rules.specs.Rows.{Row}
 use Rattle.rules.specs.Steps.{position, steps}
-use Rattle.rules.specs.Moves.{forward, back, times, walked}
+use Rattle.rules.specs.Moves.{show, forward, back, times, walked}
 use Rattle.rules.specs.Sound.{S6, S7}
 use Rattle.rules.specs.Calls.{outside}
 use Rattle.laws.proofs.Tests.{test, clash}
+use Rattle.laws.proofs.Flags.{flags-length}
 use Rattle.laws.proofs.Central.{flagsAt, central, at-position, at-steps, position-steps, forward-many, back-many}
 
 -- Where a traversal lands.
@@ -54,3 +56,14 @@ module _ (rows : List Row) (s6 : S6 rows) (s7 : S7 rows) where
 
     pub walked-steps : steps (walked δ rows) ≡ steps rows
     walked-steps = let r = walked-at δ h in ap steps (r .rows-are) ∙ at-steps (r .to) rows
+
+-- No traversal takes or adds a row.
+module _ (f : List Row → List Row) (same : (rows : List Row) → length (f rows) ≡ length rows) (rows : List Row) where
+  times-length : (k : ℕ) → length (times k f rows) ≡ length rows
+  times-length zero = refl
+  times-length (suc k) = same (times k f rows) ∙ times-length k
+
+pub walked-length : (δ : ℤ) (rows : List Row) → length (walked δ rows) ≡ length rows
+unfolding walked forward back show
+walked-length (pos k) rows = times-length forward (λ l. flags-length _ l) rows k
+walked-length (negsuc k) rows = times-length back (λ l. flags-length _ l) rows (suc k)

@@ -4,15 +4,15 @@ use mathlib.Core.List.{List, [], _∷_, _++_, flatMap}
 use mathlib.Core.Path.{_≡_, refl, sym, ap, subst, _∙_}
 use native.Mathlib.Nat.{not-suc-le-zero}
 use native.Mathlib.Omega.{arith}
-use lib.ListN.{length, getD, replicate, length-append, length-replicate, getD-replicate, List·getD-append}
-use lib.Seq.{getD-append-add}
+use lib.ListN.{length, getD, drop, replicate, length-append, length-replicate, getD-replicate, List·getD-append}
+use lib.Seq.{getD-append-add, sets-eq}
 use borrow.Author.Needs.{needs}
 use Rattle.rules.specs.Below.{tab}
 use Rattle.rules.specs.Rows.{Row, Table, noRow, rowAt, docAt, frameAt, parentAt, shownAt}
 use Rattle.rules.specs.Words.{put, capacity, rowIn, tableOf, rowsOf, rowWords, wordsOf, written}
 use Rattle.rules.specs.Sound.{S8, SoundTable, Sound}
 use Rattle.laws.proofs.Tests.{by-lt, length-tab, tab-at, tab-is}
-use Rattle.laws.proofs.Writes.{length-put, get-put-in, put-over, put-same}
+use Rattle.laws.proofs.Writes.{length-put, put-over, put-same}
 
 module _ (words : List ℕ) where
   pub rows-length : length (rowsOf words) ≡ getD words 0 0
@@ -59,15 +59,15 @@ length-words [] = refl
 length-words (r ∷ rows) = let h = length-words rows in omega arith
 
 -- Word 4 i + c of the rows' words is word c of row i.
-words-at : (rows : List Row) (z : List ℕ) (i c : ℕ) → i < length rows → c < 4 → getD (flatMap rowWords rows ++ z) (4 * i + c) 0 ≡ getD (rowWords (rowAt rows i)) c 0
+pub word-at : (rows : List Row) (i c : ℕ) → i < length rows → c < 4 → getD (flatMap rowWords rows) (4 * i + c) 0 ≡ getD (rowWords (rowAt rows i)) c 0
 unfolding flatMap
-words-at [] z i c l m = absurd (not-suc-le-zero l)
-words-at (r ∷ rows) z zero c l m =
+word-at [] i c l m = absurd (not-suc-le-zero l)
+word-at (r ∷ rows) zero c l m =
     let e : 4 * 0 + c ≡ c = omega arith in
-    rw e (List·getD-append (rowWords r) (flatMap rowWords rows ++ z) 0 c (omega arith))
-words-at (r ∷ rows) z (suc i) c l m =
+    rw e (List·getD-append (rowWords r) (flatMap rowWords rows) 0 c (omega arith))
+word-at (r ∷ rows) (suc i) c l m =
     let e : 4 * suc i + c ≡ length (rowWords r) + (4 * i + c) = omega arith in
-    rw e (getD-append-add (rowWords r) (flatMap rowWords rows ++ z) (4 * i + c) 0 ∙ words-at rows z i c (omega arith) m)
+    rw e (getD-append-add (rowWords r) (flatMap rowWords rows) (4 * i + c) 0 ∙ word-at rows i c (omega arith) m)
 
 wordsOf-head : (c : ℕ) (t : Table) (k : ℕ) → k < 3 → getD (wordsOf c t) k 0 ≡ getD (length (t .rows) ∷ t .nextDoc ∷ t .nextFrame ∷ []) k 0
 unfolding wordsOf
@@ -86,7 +86,7 @@ module _ (c : ℕ) (t : Table) (fits : length (t .rows) ≤ c) where
   unfolding wordsOf
   wordsOf-row i k l m =
       getD-append-add (length (t .rows) ∷ t .nextDoc ∷ t .nextFrame ∷ []) (flatMap rowWords (t .rows) ++ replicate (4 * (c - length (t .rows))) 0) (4 * i + k) 0
-      ∙ words-at (t .rows) _ i k l m
+      ∙ List·getD-append (flatMap rowWords (t .rows)) _ 0 (4 * i + k) (omega (arith, length-words (t .rows))) ∙ word-at (t .rows) i k l m
 
   pub wordsOf-past : (k : ℕ) → 3 + 4 * length (t .rows) ≤ k → k < 3 + 4 * c → getD (wordsOf c t) k 0 ≡ 0
   unfolding wordsOf
@@ -110,12 +110,18 @@ capacity-written words t = rw length-written
 -- THERE AND BACK
 
 module _ (words : List ℕ) (t : Table) (long : 3 ≤ length words) (fits : length (t .rows) ≤ capacity words) where
-  written-at : (k : ℕ) → k < 3 + 4 * capacity words → getD (written words t) k 0 ≡ getD (wordsOf (capacity words) t) k 0
-  unfolding written
-  written-at k l =
-      let e : 0 + k ≡ k = omega arith in
+  -- The table's words up to 3 + 4C, and then what was there.
+  pub written-is : written words t ≡ wordsOf (capacity words) t ++ drop (3 + 4 * capacity words) words
+  unfolding written put
+  written-is =
       let n = length-wordsOf (capacity words) t fits in
-      rw e at (get-put-in words (wordsOf (capacity words) t) 0 k (omega arith) (omega arith))
+      let e : 0 + length (wordsOf (capacity words) t) ≡ 3 + 4 * capacity words = omega arith in
+      sets-eq (wordsOf (capacity words) t) words 0 (omega arith) ∙ ap (λ k. wordsOf (capacity words) t ++ drop k words) e
+
+  written-at : (k : ℕ) → k < 3 + 4 * capacity words → getD (written words t) k 0 ≡ getD (wordsOf (capacity words) t) k 0
+  written-at k l =
+      let n = length-wordsOf (capacity words) t fits in
+      ap (λ w. getD w k 0) written-is ∙ List·getD-append (wordsOf (capacity words) t) _ 0 k (omega arith)
 
   row-written : (i : ℕ) → i < length (t .rows) → rowIn (written words t) i ≡ rowAt (t .rows) i
   row-written i l =
@@ -166,7 +172,8 @@ module _ (words : List ℕ) where
   head-words (suc (suc zero)) l = refl
   head-words (suc (suc (suc k))) l = absurd (omega arith)
 
-  rowIn-words : (i c : ℕ) → c < 4 → getD (rowWords (rowIn words i)) c 0 ≡ getD words (3 + (4 * i + c)) 0
+  -- Word c of row i, read as a row's and as the words'.
+  pub rowIn-words : (i c : ℕ) → c < 4 → getD (rowWords (rowIn words i)) c 0 ≡ getD words (3 + (4 * i + c)) 0
   rowIn-words i zero l = ap (λ j. getD words j 0) (omega arith)
   rowIn-words i (suc zero) l = ap (λ j. getD words j 0) (omega arith)
   rowIn-words i (suc (suc zero)) l = ap (λ j. getD words j 0) (omega arith)

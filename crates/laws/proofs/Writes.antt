@@ -8,6 +8,7 @@ use native.Mathlib.Omega.{arith}
 use lib.ListN.{length, getD, set, take, drop, replicate, List·getD-append, length-append, length-replicate}
 use lib.Seq.{sets, length-sets, set-set, set-comm, set-getD, sets-eq, length-take-le, getD-append-add, getD-set-other}
 use Rattle.rules.specs.Words.{put}
+use Rattle.laws.specs.Writes.{Wrote}
 
 pub length-put : (l : List ℕ) (i : ℕ) (vs : List ℕ) → length (put l i vs) ≡ length l
 unfolding put
@@ -126,3 +127,23 @@ put-before vs l i v = sym (set-far vs l i (suc i) v (omega arith))
 -- One after a run.
 pub put-after : (vs l : List ℕ) (i v : ℕ) → set (put l i vs) (i + length vs) v ≡ put l i (vs ++ v ∷ [])
 put-after vs l i v = put-one _ _ _ ∙ put-put vs (v ∷ []) l i
+
+-- WHAT A WRITER WROTE
+
+pub wrote-none : (old : List ℕ) (at : ℕ) → Wrote old at [] old at
+wrote-none old at = record { list = put-none old at; past = omega arith }
+
+pub wrote-length : (old vs new : List ℕ) (at q : ℕ) → Wrote old at vs new q → length new ≡ length old
+wrote-length old vs new at q a = ap length (a .list) ∙ length-put old at vs
+
+-- One after the other.
+pub wrote-then : (old mid new vs ws : List ℕ) (at p q : ℕ) → Wrote old at vs mid p → Wrote mid p ws new q → Wrote old at (vs ++ ws) new q
+wrote-then old mid new vs ws at p q a b =
+    record {
+      list = b .list ∙ ap (λ t. put t p ws) (a .list) ∙ ap (λ k. put (put old at vs) k ws) (a .past) ∙ put-put vs ws old at;
+      past = omega (arith, a .past, b .past, length-append vs ws);
+    }
+
+-- What room there was for two runs is room for the second, once the first is written.
+pub room-then : (old mid vs ws : List ℕ) (at q : ℕ) → at + length (vs ++ ws) ≤ length old → Wrote old at vs mid q → q + length ws ≤ length mid
+room-then old mid vs ws at q l w = omega (arith, length-append vs ws, wrote-length old vs mid at q w, w .past)

@@ -7,7 +7,8 @@ use lib.ListN.{length}
 use Rattle.base.specs.Numbers.{numberOf}
 use Rattle.base.specs.declared.Refusal.{Refusal}
 use Rattle.base.specs.declared.Refusal.the-variants as Refusals
-use Rattle.lines.specs.Reply.{replyIs, statusText, answerText, Wrote}
+use Rattle.laws.specs.Writes.{Wrote}
+use Rattle.lines.specs.Reply.{replyIs, statusText, answerText}
 use Rattle.lines.specs.declared.Reply.{Reply}
 use Rattle.lines.proofs.Texts.{tens, status-within}
 use Rattle.lines.specs.declared.Reply.the-variants as Replies

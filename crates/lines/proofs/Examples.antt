@@ -3,11 +3,9 @@ use mathlib.Core.List.{[], _∷_}
 use mathlib.Core.Path.{_≡_, refl}
 use lib.IntN.{pos, negsuc}
 use Rattle.rules.specs.Below.{allBelow}
-use Rattle.base.specs.declared.Refusal.the-variants.{Absent}
 use Rattle.lines.specs.Decimal.{decimalBy, decimal, decimal?, spelled, upTo, numeral}
 use Rattle.lines.specs.Lines.{Command, starts?, going, worded, parse}
 use Rattle.lines.specs.Reply.{Said, statusText, answerText}
-use Rattle.lines.specs.declared.Reply.the-variants as Replies
 
 -- `open 0`
 pub open-root : parse (111 ∷ 112 ∷ 101 ∷ 110 ∷ 32 ∷ 48 ∷ []) ≡ Command.opens 0

@@ -7,9 +7,10 @@ use lib.ListN.{length, set, length-append}
 use borrow.Author.Tests.{lt-ltb, le-ltb}
 use Rattle.rules.specs.Words.{put}
 use Rattle.laws.proofs.Tests.{by-lt}
-use Rattle.laws.proofs.Writes.{length-put, put-put}
+use Rattle.laws.specs.Writes.{Wrote}
+use Rattle.laws.proofs.Writes.{wrote-length, wrote-then, room-then}
 use Rattle.lines.specs.Decimal.{decimalBy, decimal}
-use Rattle.lines.specs.Reply.{statusText, Wrote}
+use Rattle.lines.specs.Reply.{statusText}
 
 -- DECIMALS
 
@@ -35,22 +36,9 @@ decimal-more n l = rw (le-ltb n 10 l) (ap (λ t. t ++ ((48 + n % 10) ∷ [])) (d
 
 -- ONE AFTER ANOTHER
 
-module _ (old : List ℕ) (at : ℕ) where
-  pub wrote-then : (vs ws mid new : List ℕ) (k next : ℕ) → Wrote old at vs mid k → Wrote mid k ws new next → Wrote old at (vs ++ ws) new next
-  wrote-then vs ws mid new k next v w =
-      record {
-        list =
-            w .list ∙ ap (λ m. put m k ws) (v .list) ∙ ap (λ j. put (put old at vs) j ws) (v .past) ∙ put-put vs ws old at;
-        past = rw length-append (omega (arith, v .past, w .past));
-      }
-
-  -- The room that is left.
-  pub wrote-room : (vs ws mid : List ℕ) (k : ℕ) → Wrote old at vs mid k → at + length (vs ++ ws) ≤ length old → k + length ws ≤ length mid
-  wrote-room vs ws mid k v l = let e = ap length (v .list) ∙ length-put old at vs in omega (arith, e, v .past, rw length-append at l)
-
 -- The place after a text that ends before the run does.
 pub wrote-below : (old vs mid : List ℕ) (at k : ℕ) → Wrote old at vs mid k → at + length vs < length old → k < length mid
-wrote-below old vs mid at k v l = let e = ap length (v .list) ∙ length-put old at vs in omega (arith, e, v .past)
+wrote-below old vs mid at k v l = omega (arith, wrote-length old vs mid at k v, v .past)
 
 -- Two bytes.
 pub put-two : (l : List ℕ) (i a b : ℕ) → set (set l i a) (i + 1) b ≡ put l i (a ∷ b ∷ [])
@@ -63,7 +51,7 @@ wrote-one old new at n g next l e w = rw (decimal-one n l, ← e) w
 
 pub wrote-more : (old mid new : List ℕ) (at n g k next : ℕ) → 10 ≤ n → g ≡ 48 + n % 10 → Wrote old at (decimal (n / 10)) mid k → Wrote mid k (g ∷ []) new next → Wrote old at (decimal n) new next
 wrote-more old mid new at n g k next l e v w =
-    subst (λ t. Wrote old at t new next) (ap (λ d. decimal (n / 10) ++ (d ∷ [])) e ∙ sym (decimal-more n l)) (wrote-then old at _ _ mid new k next v w)
+    subst (λ t. Wrote old at t new next) (ap (λ d. decimal (n / 10) ++ (d ∷ [])) e ∙ sym (decimal-more n l)) (wrote-then old mid new _ _ at k next v w)
 
 -- The room that a decimal takes, for the code's two ways.
 module _ (at n m : ℕ) (room : at + length (decimal n) ≤ m) where
@@ -100,36 +88,36 @@ module _ (old : List ℕ) (at a b n p s : ℕ) (room : at + length (statusText a
 
   module _ (m1 : List ℕ) (k1 : ℕ) (w1 : Wrote old at (a ∷ b ∷ []) m1 k1) where
     left1 : k1 + length first ≤ length m1
-    left1 = wrote-room old at (a ∷ b ∷ []) first m1 k1 w1 all
+    left1 = room-then old m1 (a ∷ b ∷ []) first at k1 all w1
 
     pub room-first : k1 + length (32 ∷ decimal n) ≤ length m1
     room-first = front-room k1 (length m1) (32 ∷ decimal n) second left1
 
     module _ (m2 : List ℕ) (k2 : ℕ) (w2 : Wrote m1 k1 (32 ∷ decimal n) m2 k2) where
       left2 : k2 + length second ≤ length m2
-      left2 = wrote-room m1 k1 (32 ∷ decimal n) second m2 k2 w2 left1
+      left2 = room-then m1 m2 (32 ∷ decimal n) second k1 k2 left1 w2
 
       pub room-second : k2 + length (32 ∷ decimal p) ≤ length m2
       room-second = front-room k2 (length m2) (32 ∷ decimal p) third left2
 
       module _ (m3 : List ℕ) (k3 : ℕ) (w3 : Wrote m2 k2 (32 ∷ decimal p) m3 k3) where
         left3 : k3 + length third ≤ length m3
-        left3 = wrote-room m2 k2 (32 ∷ decimal p) third m3 k3 w3 left2
+        left3 = room-then m2 m3 (32 ∷ decimal p) third k2 k3 left2 w3
 
         pub room-third : k3 + length (47 ∷ decimal s) ≤ length m3
         room-third = front-room k3 (length m3) (47 ∷ decimal s) last left3
 
         module _ (m4 : List ℕ) (k4 : ℕ) (w4 : Wrote m3 k3 (47 ∷ decimal s) m4 k4) where
           pub room-last : k4 < length m4
-          room-last = let l = wrote-room m3 k3 (47 ∷ decimal s) last m4 k4 w4 left3 in omega arith
+          room-last = let l = room-then m3 m4 (47 ∷ decimal s) last k3 k4 left3 w4 in omega arith
 
           pub wrote-status : (m5 : List ℕ) (k5 : ℕ) → Wrote m4 k4 (10 ∷ []) m5 k5 → Wrote old at (statusText a b n p s) m5 k5
           unfolding statusText
           wrote-status m5 k5 w5 =
-              wrote-then old at (a ∷ b ∷ []) first m1 m5 k1 k5 w1
-              (wrote-then m1 k1 (32 ∷ decimal n) second m2 m5 k2 k5 w2
-              (wrote-then m2 k2 (32 ∷ decimal p) third m3 m5 k3 k5 w3
-              (wrote-then m3 k3 (47 ∷ decimal s) last m4 m5 k4 k5 w4 w5)))
+              wrote-then old m1 m5 (a ∷ b ∷ []) first at k1 k5 w1
+              (wrote-then m1 m2 m5 (32 ∷ decimal n) second k1 k2 k5 w2
+              (wrote-then m2 m3 m5 (32 ∷ decimal p) third k2 k3 k5 w3
+              (wrote-then m3 m4 m5 (47 ∷ decimal s) last k3 k4 k5 w4 w5)))
 
 -- HOW LONG
 

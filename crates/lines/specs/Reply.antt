@@ -1,11 +1,8 @@
 -- The line that answers: "Accepted: `ok`, then the new document number (open, nav) or the count of changed frames (go), then position/steps.
 -- Refused: `no`, the refusal, position/steps. [..] Any other line prints `bad`."
-use Prim.Native.Nat.{ℕ, _+_}
+use Prim.Native.Nat.{ℕ}
 use mathlib.Core.List.{List, [], _∷_, _++_}
-use mathlib.Core.Path.{_≡_}
-use lib.ListN.{length}
 use Rattle.base.specs.Numbers.{numberOf}
-use Rattle.rules.specs.Words.{put}
 use Rattle.lines.specs.Decimal.{decimal}
 use Rattle.lines.specs.declared.Reply.{Reply}
 use Rattle.lines.specs.declared.Reply.the-variants as Replies
@@ -31,8 +28,3 @@ unfoldable pub answerText : Said → List ℕ
 answerText (Said.ok v p s) = statusText 111 107 v p s
 answerText (Said.denied k p s) = statusText 110 111 k p s
 answerText Said.bad = 98 ∷ 97 ∷ 100 ∷ 10 ∷ []
-
--- A text was written into a run from a place on, and next is the place after it.
-pub record Wrote (old : List ℕ) (at : ℕ) (text new : List ℕ) (next : ℕ) : Type 0 where
-  pub list : new ≡ put old at text
-  pub past : next ≡ at + length text

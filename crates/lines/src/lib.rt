@@ -8,7 +8,8 @@ ghost use Prim.Native.Nat.{_+_, _-_, _<_, _≤_};
 ghost use lib.ListN.{length};
 ghost use Rattle.lines.specs.Decimal.{decimal, digit?, leadingZero?, digits?, decimal?, spelled as spelledBy, upTo, numeral as numeralOf};
 ghost use Rattle.lines.specs.Lines.{starts? as startsWith, minus?, opening as openingOf, navigating as navigatingOf, forth as forthOf, back as backOf, going as goingOf, worded as wordedOf, parse as parseOf, commandIs};
-ghost use Rattle.lines.specs.Reply.{replyIs, statusText, answerText, Wrote};
+ghost use Rattle.laws.specs.Writes.{Wrote};
+ghost use Rattle.lines.specs.Reply.{replyIs, statusText, answerText};
 ghost use Rattle.lines.specs.Bounds.{Most};
 
 // What a line asks.

@@ -1,28 +1,27 @@
 -- Fresh and Open, by the ways that they go. Assumes nothing.
 use Prim.Native.Nat.{ℕ, _+_, _-_, _*_, _≤_, _<_}
-use mathlib.Core.Bool.{Bool, true, false, _||_, So}
+use mathlib.Core.Bool.{false}
 use mathlib.Core.List.{List, [], _∷_, _++_, flatMap}
-use mathlib.Core.Logic.{_≢_, inl, inr}
+use mathlib.Core.Logic.{inl, inr}
 use mathlib.Core.Path.{_≡_, refl, sym, ap, ap₂, _∙_}
 use native.Mathlib.Numerals.{add-one}
 use native.Mathlib.Omega.{arith}
 use lib.ListN.{length, replicate}
 use lib.Dec.{eqb}
-use borrow.Author.Tests.{lt-ltb, le-ltb, leb-false, le-leb, lt-leb, eq-eqb, ne-eqb, not-false}
+use borrow.Author.Tests.{lt-ltb, le-ltb, le-leb, lt-leb, eq-eqb, ne-eqb}
 use Rattle.rules.specs.Rows.{Row, none}
 use Rattle.rules.specs.Moves.{freshTable, opened}
 use Rattle.rules.specs.Words.{put, capacity, tableOf, rowsOf, rowWords, wordsOf, written}
 use Rattle.rules.specs.Calls.{Call, Answer, full, refusals, accepted, ladder, outcome, Given, NoneGiven}
-use Rattle.laws.proofs.Tests.{clash}
 use Rattle.laws.proofs.Writes.{put-put}
 use Rattle.laws.proofs.Words.{written-table}
 use Rattle.laws.proofs.Appended.{written-more}
 use Rattle.laws.proofs.Calls.{outcome-accepted}
+use Rattle.laws.proofs.Accepted.{open-relies}
 use Rattle.base.specs.declared.Refusal.the-variants.{Full, UsedUp}
-use Rattle.sound.specs.Check.{Examined, Settles}
+use Rattle.sound.specs.Check.{Settles}
 use Rattle.sound.specs.declared.Check.the-variants.{Sound, No}
 use Rattle.moves.specs.Answers.{roomRungs}
-use Rattle.sound.proofs.Checks.{examined-sound}
 
 -- FRESH
 
@@ -75,39 +74,17 @@ module _ (words : List ℕ) (parent : ℕ) where
   abbrev call : Call
   call = Call.Open words parent
 
-  -- What an accepted Open may rely on.
-  pub record Opening : Type 0 where
-    pub examined : Examined words
-    pub room : length (rowsOf words) < capacity words
-    pub document : tableOf words .nextDoc ≢ none
-    pub frame : tableOf words .nextFrame ≢ none
-
-  pub opening : NoneGiven (refusals call) → Opening
-  unfolding refusals NoneGiven
-  opening h =
-      let u = h .1 .1 .1 .1 .1 .0 in
-      record {
-        examined = record { long = h .0; passes = not-false _ (h .1 .0) };
-        room = leb-false _ _ (h .1 .1 .1 .1 .0);
-        document = λ z. clash (rw (eq-eqb (tableOf words .nextDoc) none z) refl) u;
-        frame = λ z. clash (either (eqb (tableOf words .nextDoc) none) (eq-eqb (tableOf words .nextFrame) none z)) u;
-      }
-    where
-      either : (a : Bool) {b : Bool} → So b → So (a || b)
-      either true h = refl
-      either false h = h
-
   -- The row and the head written.
   pub open-done : (mid new : List ℕ) (n d f : ℕ) → NoneGiven (refusals call) → n ≡ length (rowsOf words) → d ≡ tableOf words .nextDoc → f ≡ tableOf words .nextFrame →
       mid ≡ put words (3 + 4 * n) (d ∷ f ∷ parent ∷ 1 ∷ []) → new ≡ put mid 0 ((n + 1) ∷ (d + 1) ∷ (f + 1) ∷ []) →
       outcome call ≡ record { answer = Answer.gives (d ∷ f ∷ []); lent = new ∷ [] }
   unfolding accepted opened
   open-done mid new n d f h a b c p q =
-      let o = opening h in
+      let o = open-relies words parent h in
       let t = tableOf words in
       let r : Row = record { doc = t .nextDoc; frame = t .nextFrame; parent = parent; shown = 1 } in
       let w : put (put words (3 + 4 * length (rowsOf words)) (rowWords r)) 0 ((length (rowsOf words) + 1) ∷ (t .nextDoc + 1) ∷ (t .nextFrame + 1) ∷ [])
       ≡ written words (record { rows = rowsOf words ++ r ∷ []; nextDoc = t .nextDoc + 1; nextFrame = t .nextFrame + 1 }) =
-      ap (λ l. put (put l (3 + 4 * length (rowsOf words)) (rowWords r)) 0 ((length (rowsOf words) + 1) ∷ (t .nextDoc + 1) ∷ (t .nextFrame + 1) ∷ [])) (sym (written-table words (examined-sound words (o .examined))))
-      ∙ written-more words t r (t .nextDoc + 1) (t .nextFrame + 1) (o .room) in
+      ap (λ l. put (put l (3 + 4 * length (rowsOf words)) (rowWords r)) 0 ((length (rowsOf words) + 1) ∷ (t .nextDoc + 1) ∷ (t .nextFrame + 1) ∷ [])) (sym (written-table words (o .sound)))
+      ∙ written-more words t r (t .nextDoc + 1) (t .nextFrame + 1) (o .roomy) in
       outcome-accepted call h ∙ rw (q, p, a, b, c, w, add-one (t .nextDoc), add-one (t .nextFrame)) refl

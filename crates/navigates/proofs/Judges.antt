@@ -1,19 +1,19 @@
--- When Navigate is refused: the judges' answers, and what an accepted call may rely on. Assumes nothing.
+-- When Navigate is refused, and its outcome. Assumes nothing.
 use Prim.Native.Nat.{ℕ, suc, _≤_, _<_}
 use mathlib.Core.Bool.{Bool, true, false, not, _&&_, So, and-eq-true-iff}
 use mathlib.Core.List.{List, [], _∷_}
-use mathlib.Core.Logic.{_≢_, inl, inr}
+use mathlib.Core.Logic.{inl, inr}
 use mathlib.Core.Path.{_≡_, refl, sym, _∙_}
 use native.Mathlib.Omega.{arith}
 use lib.Dec.{eqb}
 use lib.ListN.{length}
-use borrow.Author.Tests.{eqb-true, eqb-false, eq-eqb, ne-eqb, leb-true, leb-false, le-leb, lt-leb, not-false}
+use borrow.Author.Tests.{eqb-true, eqb-false, eq-eqb, ne-eqb, leb-true, le-leb, lt-leb}
 use Rattle.base.specs.declared.Refusal.{Refusal}
 use Rattle.base.specs.declared.Refusal.the-variants.{Full, UsedUp}
 use Rattle.base.specs.Numbers.{numberOf}
 use Rattle.rules.specs.Below.{someBelow, count}
 use Rattle.rules.specs.Rows.{Row, none}
-use Rattle.rules.specs.Steps.{isStep, reached, taken, upcoming, position, steps, visible}
+use Rattle.rules.specs.Steps.{isStep, reached, taken, upcoming, position, steps}
 use Rattle.rules.specs.Moves.{without, cleared, navigated}
 use Rattle.rules.specs.Words.{capacity, tableOf, rowsOf, written}
 use Rattle.rules.specs.Calls.{Call, Answer, full, refusals, accepted, outcome, Given, NoneGiven}
@@ -22,7 +22,7 @@ use Rattle.laws.proofs.Tests.{test, clash, off, same-tests, some-in, some-out, 
 use Rattle.laws.proofs.Kept.{kept-length}
 use Rattle.laws.proofs.Climb.{gone-self}
 use Rattle.laws.proofs.Removal.{stays, stays-in, gone-later}
-use Rattle.sound.specs.Check.{Examined, Settles}
+use Rattle.sound.specs.Check.{Settles}
 use Rattle.sound.specs.declared.Check.the-variants.{Sound, No}
 use Rattle.sound.specs.Survey.{surveyOf}
 use Rattle.sound.specs.declared.Survey.{Survey}
@@ -104,23 +104,6 @@ module _ (words : List ℕ) (b : Bool) (e : b ≡ full words (cleared (rowsOf wo
   pub room-left : (d : ℕ) → b ≡ false → d ≡ tableOf words .nextDoc → (d ≡ none → ⊥) → Settles (roomRungs words) Sound
   unfolding NoneGiven
   room-left d f h n = (sym e ∙ f, (ne-eqb _ _ (λ z. n (h ∙ z)), tt))
-
--- What an accepted call may rely on.
-pub record Free (words : List ℕ) (d : ℕ) : Type 0 where
-  pub examined : Examined words
-  pub sees : So (visible (rowsOf words) d)
-  pub room : length (cleared (rowsOf words)) < capacity words
-  pub unused : tableOf words .nextDoc ≢ none
-
-pub free : (words : List ℕ) (d : ℕ) → NoneGiven (refusals (Call.Navigate words d)) → Free words d
-unfolding refusals NoneGiven
-free words d h =
-    record {
-      examined = record { long = h .0; passes = not-false _ (h .1 .0) };
-      sees = not-false _ (h .1 .1 .1 .0);
-      room = leb-false _ _ (h .1 .1 .1 .1 .0);
-      unused = eqb-false _ _ (h .1 .1 .1 .1 .1 .0);
-    }
 
 -- THE OUTCOME
 

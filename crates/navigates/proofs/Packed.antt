@@ -1,13 +1,12 @@
 -- Rows closed up in the words: what stands where, and the loop that does it. Assumes nothing.
-use Prim.Native.Nat.{ℕ, zero, suc, _+_, _-_, _*_, _/_, _%_, _≤_, _<_}
+use Prim.Native.Nat.{ℕ, _+_, _-_, _*_, _/_, _%_, _≤_, _<_}
 use mathlib.Core.Bool.{Bool, false, So}
-use mathlib.Core.List.{List, [], _∷_, _++_, flatMap, append-assoc}
+use mathlib.Core.List.{List, flatMap}
 use mathlib.Core.Path.{_≡_, refl, sym, ap, ap₂, subst, _∙_}
-use native.Mathlib.Nat.{not-suc-le-zero, le-antisymm}
+use native.Mathlib.Nat.{le-antisymm}
 use native.Mathlib.Numerals.{add-one}
 use native.Mathlib.Omega.{arith}
-use lib.ListN.{length, getD, List·getD-append}
-use lib.Seq.{getD-append-add}
+use lib.ListN.{length, getD}
 use lib.Dec.{eqb}
 use borrow.Author.Tests.{eqb-true, eq-eqb, ne-eqb}
 use Rattle.rules.specs.Below.{count, earliest, gather}
@@ -20,33 +19,20 @@ use Rattle.laws.proofs.Tests.{test, count-yes, count-no, count-flat, count-all,
 use Rattle.laws.proofs.Climb.{gone-self}
 use Rattle.laws.proofs.Removal.{SoundRows, sound-rows, stays}
 use Rattle.laws.proofs.Standing.{upto-start, rest-upcoming}
-use Rattle.laws.proofs.Words.{rows-length, rows-row, length-words}
+use Rattle.laws.proofs.Words.{rows-length, rows-row, length-words, word-at, rowIn-words}
+use Rattle.laws.proofs.Appended.{words-snoc}
 use Rattle.laws.proofs.Writes.{length-put, put-put, put-same, get-put-in, get-put-past, get-put-before}
 use Rattle.reads.specs.Within.{Within}
 use Rattle.reads.proofs.Nexts.{Earliest, earliest-out}
 use Rattle.sound.specs.Check.{Examined}
+use Rattle.sound.specs.Survey.{standOf}
+use Rattle.sound.specs.declared.Stand.{Stand}
 use Rattle.sound.proofs.Checks.{examined-sound, examined-fits}
 use Rattle.navigates.specs.Packing.{joins, removalEnd, Ends, Moved}
 use Rattle.navigates.proofs.Judges.{cleared-length}
 use Rattle.navigates.proofs.Stays.{early-stays, joins-is}
 
 -- THE WORDS OF ROWS
-
--- Word 4 i + c of the rows' words is word c of row i.
-pub word-at : (rows : List Row) (i c : ℕ) → i < length rows → c < 4 → getD (flatMap rowWords rows) (4 * i + c) 0 ≡ getD (rowWords (rowAt rows i)) c 0
-unfolding flatMap
-word-at [] i c l m = absurd (not-suc-le-zero l)
-word-at (r ∷ rows) zero c l m =
-    let e : 4 * 0 + c ≡ c = omega arith in
-    rw e (List·getD-append (rowWords r) (flatMap rowWords rows) 0 c (omega arith))
-word-at (r ∷ rows) (suc i) c l m =
-    let e : 4 * suc i + c ≡ length (rowWords r) + (4 * i + c) = omega arith in
-    rw e (getD-append-add (rowWords r) (flatMap rowWords rows) (4 * i + c) 0 ∙ word-at rows i c (omega arith) m)
-
-pub words-snoc : (rows : List Row) (r : Row) → flatMap rowWords (rows ++ r ∷ []) ≡ flatMap rowWords rows ++ rowWords r
-unfolding flatMap
-words-snoc [] r = refl
-words-snoc (x ∷ rows) r = ap (λ t. rowWords x ++ t) (words-snoc rows r) ∙ sym (append-assoc (rowWords x) (flatMap rowWords rows) (rowWords r))
 
 -- Rows put over the first ones of a record.
 module _ (old : List ℕ) (fits : length (rowsOf old) ≤ capacity old) (rs : List Row) (few : length rs ≤ length (rowsOf old)) where
@@ -88,25 +74,18 @@ over-same old fits rs few h =
     let m : j < length rs = omega arith in
     let b : c < 4 = omega arith in
     subst (λ k. getD (flatMap rowWords rs) k 0 ≡ getD old (3 + k) 0) (sym e)
-    (word-at rs j c m b ∙ ap (λ r. getD (rowWords r) c 0) (h j m ∙ rows-row old j (omega (arith, rows-length old))) ∙ in-row old j c b))
-  where
-    in-row : (words : List ℕ) (i c : ℕ) → c < 4 → getD (rowWords (rowIn words i)) c 0 ≡ getD words (3 + (4 * i + c)) 0
-    in-row words i zero l = ap (λ j. getD words j 0) (omega arith)
-    in-row words i (suc zero) l = ap (λ j. getD words j 0) (omega arith)
-    in-row words i (suc (suc zero)) l = ap (λ j. getD words j 0) (omega arith)
-    in-row words i (suc (suc (suc zero))) l = ap (λ j. getD words j 0) (omega arith)
-    in-row words i (suc (suc (suc (suc c)))) l = absurd (omega arith)
+    (word-at rs j c m b ∙ ap (λ r. getD (rowWords r) c 0) (h j m ∙ rows-row old j (omega (arith, rows-length old))) ∙ rowIn-words old j c b))
 
 -- WHERE THE LOOP MAY END
 
-module _ (rows : List Row) (n s p u : ℕ) (all : n ≡ length rows) (se : s ≡ steps rows) (pe : p ≡ position rows) (ue : u ≡ earliest (upcoming rows) (length rows)) where
-  pub ends-early : n - s + p ≡ u → u ≡ removalEnd rows
+module _ (rows : List Row) (s : Stand) (e : s ≡ standOf rows) where
+  pub ends-early : s .frames + s .position ≡ s .upcoming .0 → s .upcoming .0 ≡ removalEnd rows
   unfolding removalEnd
-  ends-early g = rw (eq-eqb (length rows - steps rows + position rows) (earliest (upcoming rows) (length rows)) (omega arith)) ue
+  ends-early = rw e (λ g. rw (eq-eqb _ _ g) refl)
 
-  pub ends-last : (n - s + p ≡ u → ⊥) → n ≡ removalEnd rows
+  pub ends-last : (s .frames + s .position ≡ s .upcoming .0 → ⊥) → length rows ≡ removalEnd rows
   unfolding removalEnd
-  ends-last g = rw (ne-eqb (length rows - steps rows + position rows) (earliest (upcoming rows) (length rows)) (λ e. g (omega arith))) all
+  ends-last = rw e (λ g. rw (ne-eqb _ _ g) refl)
 
 -- From there on nothing stays.
 pub end-ends : (rows : List Row) → S6 rows → S7 rows → (e : ℕ) → e ≡ removalEnd rows → Ends rows e

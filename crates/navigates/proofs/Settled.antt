@@ -11,26 +11,25 @@ use lib.Dec.{eqb}
 use lib.ListN.{length, set, replicate, length-append, length-replicate, getD-replicate, length-set}
 use lib.Seq.{set-set, ext-getD, getD-set-same, getD-set-other}
 use borrow.Author.Tests.{eqb-true, eqb-false, eq-eqb, ne-eqb}
-use Rattle.rules.specs.Below.{someBelow, count}
+use Rattle.rules.specs.Below.{someBelow}
 use Rattle.rules.specs.Rows.{Row, none, noRow, rowAt, docAt, frameAt, parentAt, shownAt, isShown, isDoc, place, flag}
-use Rattle.rules.specs.Steps.{upcoming, position, visibleAt}
+use Rattle.rules.specs.Steps.{upcoming}
 use Rattle.rules.specs.Moves.{without, cleared, hide, navigated}
 use Rattle.rules.specs.Words.{put, capacity, tableOf, rowsOf, rowWords, wordsOf, written}
-use Rattle.laws.proofs.Tests.{test, some-in, count-in, gather-from, count-most}
-use Rattle.laws.proofs.Flags.{flags-length, flags-row}
-use Rattle.laws.proofs.Central.{central}
+use Rattle.laws.proofs.Tests.{test, some-in, gather-from, count-most}
+use Rattle.laws.proofs.Flags.{flag-back, flags-length, flags-row}
 use Rattle.laws.proofs.Append.{length-snoc}
-use Rattle.laws.proofs.Kept.{kept-row, kept-length}
 use Rattle.laws.proofs.Tree.{distinct, place-is, Alike, alike}
-use Rattle.laws.proofs.Climb.{sees-out}
-use Rattle.laws.proofs.Removal.{SoundRows, sound-rows, stays, cleared-removed, visible-stays}
+use Rattle.laws.proofs.Removal.{SoundRows, sound-rows, stays, cleared-removed}
+use Rattle.laws.proofs.Navigate.{stayed}
+use Rattle.laws.proofs.Accepted.{Navigates}
 use Rattle.laws.proofs.Words.{rows-length, length-words}
+use Rattle.laws.proofs.Appended.{words-snoc}
 use Rattle.laws.proofs.Writes.{put-one, put-put, put-far, put-before, put-same, get-put-past}
 use Rattle.reads.specs.Within.{Within}
-use Rattle.sound.proofs.Checks.{examined-sound, examined-fits}
 use Rattle.navigates.specs.Packing.{settled}
-use Rattle.navigates.proofs.Judges.{Free, cleared-length}
-use Rattle.navigates.proofs.Packed.{words-snoc, over-length, over-capacity, over-row}
+use Rattle.navigates.proofs.Judges.{cleared-length}
+use Rattle.navigates.proofs.Packed.{over-length, over-capacity, over-row}
 
 -- ONE WORD WRITTEN ANEW
 
@@ -55,9 +54,6 @@ set-flag (r ∷ rows) zero v l = refl
 set-flag (r ∷ rows) (suc q) v l =
     let e : 4 * suc q + 3 ≡ suc (suc (suc (suc (4 * q + 3)))) = omega arith in
     rw e (ap (λ t. rowWords r ++ t) (set-flag rows q v (omega arith)))
-
-flag-back : (s : ℕ) → s ≤ 1 → flag (eqb s 1) ≡ s
-flag-back s l = test (eqb s 1) (λ t. rw t (sym (eqb-true s 1 t))) (λ f. let ne : s ≢ 1 = eqb-false s 1 f in rw f (omega arith))
 
 -- To hide a document is to write its one row's flag.
 hide-is : (rows : List Row) (q d : ℕ) → q < length rows → docAt rows q ≡ d → ((i : ℕ) → i < length rows → docAt rows i ≡ d → i ≡ q) →
@@ -99,7 +95,7 @@ runs-on old ws zs a b c =
 
 -- THE WORDS
 
-module _ (old : List ℕ) (d : ℕ) (f : Free old d) (word : tableOf old .nextDoc ≤ none) where
+module _ (old : List ℕ) (d : ℕ) (f : Navigates old d) (word : tableOf old .nextDoc ≤ none) where
   abbrev rows : List Row
   rows = rowsOf old
 
@@ -107,29 +103,16 @@ module _ (old : List ℕ) (d : ℕ) (f : Free old d) (word : tableOf old .nextDo
   c = cleared rows
 
   sound-in : SoundRows rows (tableOf old .nextDoc) (tableOf old .nextFrame)
-  sound-in = sound-rows (examined-sound old (f .examined) .table) word
+  sound-in = sound-rows (f .sound .table) word
 
   clear-sound : SoundRows c (tableOf old .nextDoc) (tableOf old .nextFrame)
   clear-sound = cleared-removed rows sound-in .sound
 
   fits : length rows ≤ capacity old
-  fits = examined-fits old (f .examined)
+  fits = f .sound .table .s1 .fits
 
   clear-fewer : length c ≤ length rows
   clear-fewer = omega (arith, cleared-length rows, count-most (stays (upcoming rows) rows) (length rows))
-
-  -- d's row stays.
-  stayed : (k : ℕ) × (k < length c) × (docAt c k ≡ d)
-  unfolding without
-  stayed =
-      let v = sees-out rows d (f .sees) in
-      let now = central rows (sound-in .s6) (sound-in .s7) in
-      let u = visible-stays rows sound-in (position rows) (omega arith) (v .0) (v .1) (subst (λ l. So (visibleAt l (v .0))) (sym now) (v .3)) in
-      let keep = stays (upcoming rows) rows in (
-        count keep (v .0),
-        subst (λ n. count keep (v .0) < n) (sym (kept-length keep rows)) (count-in keep (length rows) (v .1) u),
-        ap (λ r. r .doc) (kept-row keep rows (v .0) (v .1) u) ∙ v .2,
-      )
 
   -- A cleared row with document d is d's row.
   the-row : (q : ℕ) → q < length c → docAt c q ≡ d → rowAt c q ≡ rowAt rows (place rows d)
@@ -139,17 +122,14 @@ module _ (old : List ℕ) (d : ℕ) (f : Free old d) (word : tableOf old .nextDo
       r .4 ∙ ap (rowAt rows) (sym (place-is rows (sound-in .tree) (r .0) d (r .1) (ap (λ x. x .doc) (sym (r .4)) ∙ e)))
 
   module _ (packed : List ℕ) (is : packed ≡ put old 3 (flatMap rowWords c)) where
-    packed-fits : length (rowsOf packed) ≤ capacity packed
-    packed-fits =
-        let a : length (rowsOf packed) ≡ length rows = ap (λ w. length (rowsOf w)) is ∙ over-length old fits c clear-fewer in
-        let b : capacity packed ≡ capacity old = ap capacity is ∙ over-capacity old fits c clear-fewer in
-        let h = fits in omega arith
-
     packed-rows : length (rowsOf packed) ≡ length rows
     packed-rows = ap (λ w. length (rowsOf w)) is ∙ over-length old fits c clear-fewer
 
     packed-capacity : capacity packed ≡ capacity old
     packed-capacity = ap capacity is ∙ over-capacity old fits c clear-fewer
+
+    packed-fits : length (rowsOf packed) ≤ capacity packed
+    packed-fits = omega (arith, packed-rows, packed-capacity, fits)
 
     row-there : (j : ℕ) → j < length c → rowAt (rowsOf packed) j ≡ rowAt c j
     row-there j l = ap (λ w. rowAt (rowsOf w) j) is ∙ over-row old fits c clear-fewer j l
@@ -157,8 +137,8 @@ module _ (old : List ℕ) (d : ℕ) (f : Free old d) (word : tableOf old .nextDo
     -- d's row is found.
     still-there : (k : ℕ) → k ≡ length c → So (someBelow k (isDoc (rowsOf packed) d))
     still-there k e =
-        let s = stayed in
-        some-in (isDoc (rowsOf packed) d) k (omega arith) (eq-eqb _ _ (ap (λ r. r .doc) (row-there (s .0) (s .1)) ∙ s .2))
+        let s = stayed (tableOf old) sound-in (f .doc) d (f .seen) in
+        some-in (isDoc (rowsOf packed) d) k (omega arith) (eq-eqb _ _ (ap (λ r. r .doc) (row-there (s .0) (s .1) ∙ s .2) ∙ s .3))
 
     -- What the search for d's row and the settling may rely on.
     pub place-asks : (k : ℕ) → k ≡ length c → (length (rowsOf packed) ≤ capacity packed) × (k ≤ length (rowsOf packed)) × So (someBelow k (isDoc (rowsOf packed) d))
@@ -166,8 +146,8 @@ module _ (old : List ℕ) (d : ℕ) (f : Free old d) (word : tableOf old .nextDo
 
     pub settle-asks : (q k n e : ℕ) → k ≡ length c → n ≡ length rows → e ≡ tableOf old .nextDoc → q < k → Within packed q × (k < capacity packed) × (n ≤ capacity packed) × (e < none)
     settle-asks q k n e a b g l =
-        let r = f .room in
-        let u = f .unused in
+        let r = f .roomy in
+        let u = f .doc in
         let cap = packed-capacity in
         (record { fits = packed-fits; below = omega (arith, packed-rows, clear-fewer) }, omega arith, omega (arith, fits), omega (arith, word))
 
@@ -223,17 +203,17 @@ module _ (old : List ℕ) (d : ℕ) (f : Free old d) (word : tableOf old .nextDo
       zeros-there =
           let n = start-length in
           let h = fits in
-          let r = f .room in
+          let r = f .roomy in
           sym (put-put start (replicate more 0) old 0) ∙ put-same (replicate more 0) (put old 0 start) (0 + length start) (λ j b.
           let m : j < more = subst (λ x. j < x) (length-replicate more 0) b in
           getD-replicate more j 0 0 m ∙ sym (get-put-past start old 0 (0 + length start + j) (omega arith)
-          ∙ examined-sound old (f .examined) .s8 .zeros (0 + length start + j) (omega (arith, rows-length old)) (omega arith)))
+          ∙ f .sound .s8 .zeros (0 + length start + j) (omega (arith, rows-length old)) (omega arith)))
 
       wordsOf-is : wordsOf (capacity old) (navigated (tableOf old) d) ≡ start ++ replicate more 0
       unfolding wordsOf navigated
       wordsOf-is =
           let t : flatMap rowWords all ++ replicate (4 * (capacity old - length all)) 0 ≡ (flatMap rowWords all ++ zeros) ++ replicate more 0 =
-          ap (λ x. flatMap rowWords all ++ replicate (4 * (capacity old - x)) 0) all-length ∙ zeros-split (flatMap rowWords all) (capacity old) (length rows) (length c) (f .room) fits in
+          ap (λ x. flatMap rowWords all ++ replicate (4 * (capacity old - x)) 0) all-length ∙ zeros-split (flatMap rowWords all) (capacity old) (length rows) (length c) (f .roomy) fits in
           ap₂ (λ x y. x ∷ suc (tableOf old .nextDoc) ∷ tableOf old .nextFrame ∷ y) (all-length ∙ sym (add-one (length c))) t
           ∙ ap (λ x. (length c + 1) ∷ x ∷ tableOf old .nextFrame ∷ ((flatMap rowWords all ++ zeros) ++ replicate more 0)) (sym (add-one (tableOf old .nextDoc)))
 

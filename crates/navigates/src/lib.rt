@@ -106,11 +106,10 @@ fn removal_end(words: &[u32], s: Stand) -> RowPlace
     requires { ⌜ Located (now words) s ⌝ }
     ensures { λ r. ⌜ r .0 ≡ removalEnd (rowsOf (now (words .entry))) ⌝ }
 {
-    let n = rows::row_count(words);
-    if n - s.steps + s.position == s.upcoming.0 {
+    if s.frames + s.position == s.upcoming.0 {
         return s.upcoming;
     }
-    RowPlace(n)
+    RowPlace(rows::row_count(words))
 }
 
 // Removes what goes and closes the gaps: the rows before the first upcoming step stay where they are, and none stays from `end` on. How many rows stay.

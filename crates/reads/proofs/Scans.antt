@@ -1,5 +1,5 @@
 -- Scans downwards for the latest row that passes. Assumes nothing.
-use Prim.Native.Nat.{ℕ, zero, suc, max, _+_, _-_, _*_, _≤_, _<_}
+use Prim.Native.Nat.{ℕ, suc, max, _+_, _-_, _*_, _≤_, _<_}
 use mathlib.Core.Bool.{Bool, true, false, So}
 use mathlib.Core.List.{List}
 use mathlib.Core.Logic.{⊎-elim}
@@ -15,7 +15,7 @@ use Rattle.rules.specs.Below.{someBelow, latest}
 use Rattle.rules.specs.Rows.{Row, frameAt, isDoc, inFrame}
 use Rattle.rules.specs.Words.{rowsOf}
 use Rattle.rules.specs.Steps.{same, step}
-use Rattle.laws.proofs.Tests.{test, off, below-cases, some-in, some-out, some-same, latest-out}
+use Rattle.laws.proofs.Tests.{test, off, below-cases, some-in, some-out, some-same, latest-out, latest-same}
 use Rattle.laws.proofs.Words.{doc-in, frame-in}
 use Rattle.laws.proofs.Loops.{count-within}
 use Rattle.reads.specs.Found.{foundBelow}
@@ -72,12 +72,6 @@ module _ (p : ℕ → Bool) where
 
   pub none-found : (n : ℕ) (r : Found) → r ≡ foundBelow p n → r ≡ Nothing → false ≡ someBelow n p
   none-found n r e f = sym (found-nothing n (sym e ∙ f))
-
--- Tests that agree on the places before n have the same latest one.
-latest-same : (p q : ℕ → Bool) (n : ℕ) → ((k : ℕ) → k < n → p k ≡ q k) → latest p n ≡ latest q n
-unfolding latest
-latest-same p q zero h = refl
-latest-same p q (suc n) h = rw (h n (omega arith), latest-same p q n (λ k l. h k (omega arith)))
 
 -- Tests that agree on the places before n find the same.
 found-same : (p q : ℕ → Bool) (n : ℕ) → ((k : ℕ) → k < n → p k ≡ q k) → foundBelow p n ≡ foundBelow q n

@@ -1,13 +1,17 @@
 -- Document 01, "Examples": P1 to P12 and the small ones, each as a row of a table, and one statement over each table, by computation.
--- The rows CE2 and CE5 are 001's counterexamples 2 and 5 on records that S1 to S8 allow.
-use Prim.Native.Nat.{ℕ, _+_, _*_}
+-- The case `hiddenFuture` is 001's counterexample 2; counterexample 5 stands in `demands`, at `own-future-not-enough`. Assumes nothing.
+use Prim.Native.Nat.{ℕ, _+_, _-_, _*_, _≤_}
+use native.Mathlib.Nat.{zero-add}
+use native.Mathlib.Omega.{arith}
 use mathlib.Core.Bool.{Bool, false}
 use mathlib.Core.List.{List, [], _∷_, _++_, map, flatMap}
-use mathlib.Core.Path.{_≡_, refl}
+use mathlib.Core.Path.{_≡_, refl, ap}
+use lib.Dec.{eqb}
 use lib.IntN.{pos, negℤ}
-use lib.ListN.{length, getD, replicate}
+use lib.ListN.{length, getD, drop, replicate}
+use lib.Seq.{sets-eq}
 use Rattle.rules.specs.Below.{someBelow, allBelow, count, earliest, latest, sum, tab, gather}
-use Rattle.rules.specs.Rows.{Row, Table, none, docAt, isShown, inRecord, place, isFrame, withFlags, climb}
+use Rattle.rules.specs.Rows.{none, docAt, isShown, inRecord, place, isFrame, flag, withFlags, climb}
 use Rattle.rules.specs.Steps.{step, reach, position, steps, visible}
 use Rattle.rules.specs.Moves.{opened, gone, without, hide, navigated, show, forward, backTarget, rowBefore, back, walked, shownDoc, changeRow, changes}
 use Rattle.rules.specs.Words.{put, tableOf, rowsOf, wordsOf, written}
@@ -17,18 +21,15 @@ use Rattle.rules.specs.Saved.{number, docsOf, shownPlace, parentOf, cont
 use Rattle.rules.specs.Calls.{Call, Answer, Outcome, refusals, accepted, ladder, outcome}
 use Rattle.rules.specs.Runs.{Move, on, after, run}
 
--- A record of so many rows' room, all words 0; with a table in it; after Fresh.
-abbrev blank : ℕ → List ℕ
-blank c = replicate (3 + 4 * c) 0
+-- The words of a row; of a record of c rows' room with these rows and next numbers; of one after Fresh.
+abbrev row : ℕ → ℕ → ℕ → ℕ → List ℕ
+row d f p s = d ∷ f ∷ p ∷ s ∷ []
 
-abbrev holding : ℕ → Table → List ℕ
-holding c t = written (blank c) t
+abbrev holding : ℕ → List (List ℕ) → ℕ → ℕ → List ℕ
+holding c rows d f = length rows ∷ d ∷ f ∷ (flatMap (λ r. r) rows ++ replicate (4 * (c - length rows)) 0)
 
 abbrev fresh : ℕ → List ℕ
-fresh c = getD (outcome (Call.Fresh (blank c)) .lent) 0 []
-
-abbrev row : ℕ → ℕ → ℕ → ℕ → Row
-row d f p s = record { doc = d; frame = f; parent = p; shown = s }
+fresh c = getD (outcome (Call.Fresh (replicate (3 + 4 * c) 0)) .lent) 0 []
 
 -- What a case looks at: the answers on the way, then of the record the answer of Position, its documents, those shown, those that Visible says
 -- yes to, and the change rows that the last call wrote.
@@ -58,7 +59,7 @@ changedBy words (m ∷ n ∷ moves) = changedBy (after words m) (n ∷ moves)
 abbrev yes? : Answer → Bool
 yes? (Answer.refuses k) = false
 yes? (Answer.gives []) = false
-yes? (Answer.gives (v ∷ vs)) = lib.Dec.eqb v 1
+yes? (Answer.gives (v ∷ vs)) = eqb v 1
 
 abbrev pub seen : Case → Seen
 seen c =
@@ -75,12 +76,7 @@ seen c =
 
 -- "Record X (001, definition 1's example)"
 abbrev X : List ℕ
-X =
-    holding 8 (record {
-      rows = row 0 0 none 1 ∷ row 1 1 0 1 ∷ row 2 2 1 0 ∷ row 3 3 0 1 ∷ row 4 2 1 1 ∷ row 5 1 0 0 ∷ [];
-      nextDoc = 6;
-      nextFrame = 4;
-    })
+X = holding 8 (row 0 0 none 1 ∷ row 1 1 0 1 ∷ row 2 2 1 0 ∷ row 3 3 0 1 ∷ row 4 2 1 1 ∷ row 5 1 0 0 ∷ []) 6 4
 
 -- Room for one change row, filled with nines.
 abbrev room : List ℕ
@@ -101,29 +97,29 @@ ok v = Answer.gives (v ∷ [])
 abbrev at : ℕ → ℕ → Answer
 at p s = Answer.gives (p ∷ s ∷ s ∷ [])
 
+-- X as it stands, after these answers and with these change rows.
+abbrev asX : List Answer → List ℕ → Seen
+asX answers changed =
+    record {
+      answers = answers;
+      stands = at 1 2;
+      documents = 0 ∷ 1 ∷ 2 ∷ 3 ∷ 4 ∷ 5 ∷ [];
+      shown = 0 ∷ 1 ∷ 3 ∷ 4 ∷ [];
+      sees = 0 ∷ 1 ∷ 3 ∷ 4 ∷ [];
+      changed = changed;
+    }
+
 -- P9: "Documents 0 to 4, frames {0}, {1,3}, {2,4} numbered 0 to 2, parents none,0,0,0,0, shown 0,1,4, next 5 and 3, C = 8".
 abbrev nine : List ℕ
-nine = holding 8 (record { rows = row 0 0 none 1 ∷ row 1 1 0 1 ∷ row 2 2 0 0 ∷ row 3 1 0 0 ∷ row 4 2 0 1 ∷ []; nextDoc = 5; nextFrame = 3 })
+nine = holding 8 (row 0 0 none 1 ∷ row 1 1 0 1 ∷ row 2 2 0 0 ∷ row 3 1 0 0 ∷ row 4 2 0 1 ∷ []) 5 3
 
 -- Frame 2 lies in document 1, which is not shown, and has step 4 upcoming.
 abbrev underHidden : List ℕ
-underHidden = holding 8 (record { rows = row 0 0 none 1 ∷ row 1 1 0 0 ∷ row 2 2 1 1 ∷ row 3 1 0 1 ∷ row 4 2 1 0 ∷ []; nextDoc = 5; nextFrame = 3 })
+underHidden = holding 8 (row 0 0 none 1 ∷ row 1 1 0 0 ∷ row 2 2 1 1 ∷ row 3 1 0 1 ∷ row 4 2 1 0 ∷ []) 5 3
 
 -- "P1. X: sound, position 1 of 2, visible 0,1,3,4."
 abbrev p1 : Case
-p1 =
-    record {
-      start = X;
-      moves = [];
-      expected = record {
-        answers = [];
-        stands = at 1 2;
-        documents = 0 ∷ 1 ∷ 2 ∷ 3 ∷ 4 ∷ 5 ∷ [];
-        shown = 0 ∷ 1 ∷ 3 ∷ 4 ∷ [];
-        sees = 0 ∷ 1 ∷ 3 ∷ 4 ∷ [];
-        changed = [];
-      };
-    }
+p1 = record { start = X; moves = []; expected = asX [] [] }
 
 -- "P2. X by -1: 2 shown instead of 4; one change row (2, 4, 2, 1)."
 abbrev p2 : Case
@@ -159,35 +155,11 @@ p3 =
 
 -- "P4. X by +2, and by -2: refused 6."
 abbrev p4 : Case
-p4 =
-    record {
-      start = X;
-      moves = forwardBy 2 ∷ backBy 2 ∷ [];
-      expected = record {
-        answers = no 6 ∷ no 6 ∷ [];
-        stands = at 1 2;
-        documents = 0 ∷ 1 ∷ 2 ∷ 3 ∷ 4 ∷ 5 ∷ [];
-        shown = 0 ∷ 1 ∷ 3 ∷ 4 ∷ [];
-        sees = 0 ∷ 1 ∷ 3 ∷ 4 ∷ [];
-        changed = 9 ∷ 9 ∷ 9 ∷ 9 ∷ [];
-      };
-    }
+p4 = record { start = X; moves = forwardBy 2 ∷ backBy 2 ∷ []; expected = asX (no 6 ∷ no 6 ∷ []) room }
 
 -- "P5. X by -2147483648: refused 6."
 abbrev p5 : Case
-p5 =
-    record {
-      start = X;
-      moves = backBy 2147483648 ∷ [];
-      expected = record {
-        answers = no 6 ∷ [];
-        stands = at 1 2;
-        documents = 0 ∷ 1 ∷ 2 ∷ 3 ∷ 4 ∷ 5 ∷ [];
-        shown = 0 ∷ 1 ∷ 3 ∷ 4 ∷ [];
-        sees = 0 ∷ 1 ∷ 3 ∷ 4 ∷ [];
-        changed = 9 ∷ 9 ∷ 9 ∷ 9 ∷ [];
-      };
-    }
+p5 = record { start = X; moves = backBy 2147483648 ∷ []; expected = asX (no 6 ∷ []) room }
 
 -- "P6. Navigate X from 1: 5 goes, 6 comes, position 2 of 2, visible 0,3,6."
 abbrev p6 : Case
@@ -223,19 +195,7 @@ p7 =
 
 -- "P8. Navigate X from 2: refused 5; from 9: refused 4."
 abbrev p8 : Case
-p8 =
-    record {
-      start = X;
-      moves = Move.navigates 2 ∷ Move.navigates 9 ∷ [];
-      expected = record {
-        answers = no 5 ∷ no 4 ∷ [];
-        stands = at 1 2;
-        documents = 0 ∷ 1 ∷ 2 ∷ 3 ∷ 4 ∷ 5 ∷ [];
-        shown = 0 ∷ 1 ∷ 3 ∷ 4 ∷ [];
-        sees = 0 ∷ 1 ∷ 3 ∷ 4 ∷ [];
-        changed = [];
-      };
-    }
+p8 = record { start = X; moves = Move.navigates 2 ∷ Move.navigates 9 ∷ []; expected = asX (no 5 ∷ no 4 ∷ []) [] }
 
 -- "P9. [..] refused 2 (S7)."
 abbrev p9 : Case
@@ -363,12 +323,43 @@ pub record Small : Type 0 where
   pub call : Call
   pub expected : Outcome
 
+abbrev small : Call → Answer → List (List ℕ) → Small
+small c a l = record { call = c; expected = record { answer = a; lent = l } }
+
 abbrev freshBytes : List ℕ
 freshBytes =
     0 ∷ 0 ∷ 0 ∷ 1 ∷ 0 ∷ 0 ∷ 0 ∷ 1 ∷ 0 ∷ 0 ∷ 0 ∷ 1 ∷ 0 ∷ 0 ∷ 0 ∷ 0 ∷ 255 ∷ 255 ∷ 255 ∷ 255 ∷ 0 ∷ 0 ∷ 0 ∷ 1 ∷ 0 ∷ 0 ∷ 0 ∷ 0 ∷ 0 ∷ 0 ∷ 0 ∷ 0 ∷ []
 
-abbrev small : Call → Answer → List (List ℕ) → Small
-small c a l = record { call = c; expected = record { answer = a; lent = l } }
+-- X saved, 12 + 16 * 4 + 4 * 6 bytes.
+abbrev bytesOfX : List ℕ
+bytesOfX =
+    -- "frame count F, next document, next frame"
+    0 ∷ 0 ∷ 0 ∷ 4 ∷ 0 ∷ 0 ∷ 0 ∷ 6 ∷ 0 ∷ 0 ∷ 0 ∷ 4
+    -- "frame, parent, number of its documents m, and which of them is shown"
+    ∷ 0 ∷ 0 ∷ 0 ∷ 0 ∷ 255 ∷ 255 ∷ 255 ∷ 255 ∷ 0 ∷ 0 ∷ 0 ∷ 1 ∷ 0 ∷ 0 ∷ 0 ∷ 0
+    ∷ 0 ∷ 0 ∷ 0 ∷ 1 ∷ 0 ∷ 0 ∷ 0 ∷ 0 ∷ 0 ∷ 0 ∷ 0 ∷ 2 ∷ 0 ∷ 0 ∷ 0 ∷ 0
+    ∷ 0 ∷ 0 ∷ 0 ∷ 2 ∷ 0 ∷ 0 ∷ 0 ∷ 1 ∷ 0 ∷ 0 ∷ 0 ∷ 2 ∷ 0 ∷ 0 ∷ 0 ∷ 1
+    ∷ 0 ∷ 0 ∷ 0 ∷ 3 ∷ 0 ∷ 0 ∷ 0 ∷ 0 ∷ 0 ∷ 0 ∷ 0 ∷ 1 ∷ 0 ∷ 0 ∷ 0 ∷ 0
+    -- the documents of frames 0, 1, 2 and 3
+    ∷ 0 ∷ 0 ∷ 0 ∷ 0
+    ∷ 0 ∷ 0 ∷ 0 ∷ 1 ∷ 0 ∷ 0 ∷ 0 ∷ 5
+    ∷ 0 ∷ 0 ∷ 0 ∷ 2 ∷ 0 ∷ 0 ∷ 0 ∷ 4
+    ∷ 0 ∷ 0 ∷ 0 ∷ 3 ∷ []
+
+-- Documents 1, 3, 6 in frame 1, of which a is shown, and 2, 4, 5 in frame 2, of which b is: the steps are 3, 4, 5, 6.
+abbrev crossing : ℕ → ℕ → List ℕ
+crossing a b =
+    let one : ℕ → List ℕ = λ d. row d 1 0 (flag (eqb d a)) in
+    let two : ℕ → List ℕ = λ d. row d 2 0 (flag (eqb d b)) in
+    holding 7 (row 0 0 none 1 ∷ one 1 ∷ two 2 ∷ one 3 ∷ two 4 ∷ two 5 ∷ one 6 ∷ []) 7 3
+
+-- Fresh with other next numbers.
+abbrev next : ℕ → ℕ → List ℕ
+next d f = holding 2 (row 0 0 none 1 ∷ []) d f
+
+-- A record that Position refuses as unsound.
+abbrev unsound : List ℕ → Small
+unsound words = small (Call.Position words) (no 2) []
 
 abbrev pub smalls : List Small
 smalls =
@@ -376,24 +367,92 @@ smalls =
     small (Call.Save (fresh 8) (replicate 34 7)) (ok 32) ((freshBytes ++ 7 ∷ 7 ∷ []) ∷ [])
     ∷ small (Call.Save (fresh 8) (replicate 31 7)) (no 9) (replicate 31 7 ∷ [])
     ∷ small (Call.Load (replicate 9 7) freshBytes) (ok 1) ((1 ∷ 1 ∷ 1 ∷ 0 ∷ 0 ∷ none ∷ 1 ∷ 7 ∷ 7 ∷ []) ∷ [])
+    -- "big-endian, four a number": 16909060 is 1, 2, 3, 4.
+    ∷ small (Call.Save (next 16909060 1) (replicate 32 7)) (ok 32) ((0 ∷ 0 ∷ 0 ∷ 1 ∷ 1 ∷ 2 ∷ 3 ∷ 4 ∷ drop 8 freshBytes) ∷ [])
     -- "Record of 6 words: refused 1; 7 words: C = 1, Fresh accepted, then Open refused 7."
     ∷ small (Call.Fresh (replicate 6 7)) (no 1) (replicate 6 7 ∷ [])
     ∷ small (Call.Fresh (replicate 7 7)) (Answer.gives []) ((1 ∷ 1 ∷ 1 ∷ 0 ∷ 0 ∷ none ∷ 1 ∷ []) ∷ [])
     ∷ small (Call.Open (fresh 1) 0) (no 7) (fresh 1 ∷ [])
+    -- "words past 3 + 4C are neither read nor written"
+    ∷ small (Call.Position (fresh 1 ++ 7 ∷ [])) (at 0 0) []
     -- "Empty saved bytes: refused 3."
     ∷ small (Call.Load (replicate 7 7) []) (no 3) (replicate 7 7 ∷ [])
     -- X again: its lists, its outline, its bytes and back.
     ∷ small (Call.Lists X (9 ∷ 9 ∷ []) (9 ∷ 9 ∷ [])) (Answer.gives (1 ∷ 1 ∷ [])) ((4 ∷ 9 ∷ []) ∷ (5 ∷ 9 ∷ []) ∷ [])
     ∷ small (Call.Outline X (replicate 9 9)) (ok 4) ((0 ∷ 0 ∷ 1 ∷ 1 ∷ 2 ∷ 4 ∷ 1 ∷ 3 ∷ 9 ∷ []) ∷ [])
-    ∷ small (Call.Load (blank 8) (saved (tableOf X))) (ok 6) (X ∷ [])
-    -- Stretch at the far end of its width.
+    ∷ small (Call.Save X (replicate 101 7)) (ok 100) ((bytesOfX ++ 7 ∷ []) ∷ [])
+    ∷ small (Call.Load (replicate 35 7) bytesOfX) (ok 6) (X ∷ [])
+    -- "taken steps, latest first, and upcoming steps, earliest first; words past them keep their values"
+    ∷ small (Call.Lists (crossing 3 4) (replicate 3 9) (replicate 3 9)) (Answer.gives (2 ∷ 2 ∷ [])) ((4 ∷ 3 ∷ 9 ∷ []) ∷ (5 ∷ 6 ∷ 9 ∷ []) ∷ [])
+    -- Change rows "by rising frame number", though frame 2 moves first, forward and back. "Further rows keep what they held."
+    ∷ small (Call.Traverse (crossing 3 4) (pos 2) (replicate 12 9)) (ok 2) (crossing 6 5 ∷ (1 ∷ 3 ∷ 6 ∷ 1 ∷ 2 ∷ 4 ∷ 5 ∷ 1 ∷ room) ∷ [])
+    ∷ small (Call.Traverse (crossing 3 4) (negℤ (pos 2)) (replicate 12 9)) (ok 2) (crossing 1 2 ∷ (1 ∷ 3 ∷ 1 ∷ 1 ∷ 2 ∷ 4 ∷ 2 ∷ 1 ∷ room) ∷ [])
+    -- One row "for each frame whose shown document differs between start and end": frame 2 takes two steps.
+    ∷ small (Call.Traverse (crossing 1 2) (pos 3) (replicate 8 9)) (ok 2) (crossing 3 5 ∷ (1 ∷ 1 ∷ 3 ∷ 1 ∷ 2 ∷ 2 ∷ 5 ∷ 1 ∷ []) ∷ [])
+    -- "δ = 0 is accepted."
+    ∷ small (Call.Traverse X (pos 0) []) (ok 0) (X ∷ [] ∷ [])
+    -- "the second for δ ≥ 0 and the first for δ < 0", "when it is 6, the part given back is empty"; and at the far end of δ's width.
     ∷ small (Call.Stretch (4 ∷ 2 ∷ []) (5 ∷ []) (negℤ (pos 1))) (Answer.gives (4 ∷ [])) []
+    ∷ small (Call.Stretch (4 ∷ 2 ∷ []) (5 ∷ []) (pos 2)) (Answer.gives []) []
     ∷ small (Call.StretchCount (4 ∷ 2 ∷ []) (5 ∷ []) (pos 1)) (ok 1) []
     ∷ small (Call.StretchCount (4 ∷ 2 ∷ []) (5 ∷ []) (negℤ (pos 2147483648))) (no 6) []
+    -- "record unsound", by one rule alone. S1: no row; more rows than C, which is 1.
+    ∷ unsound (0 ∷ 1 ∷ 1 ∷ 0 ∷ 0 ∷ 0 ∷ 0 ∷ [])
+    ∷ unsound (2 ∷ 2 ∷ 1 ∷ 0 ∷ 0 ∷ none ∷ 1 ∷ 1 ∷ 0 ∷ none ∷ [])
+    -- S2: document 2 before document 1; document 1 twice; document 0 is the last and word 1 is 0.
+    ∷ unsound (holding 3 (row 0 0 none 1 ∷ row 2 0 none 0 ∷ row 1 0 none 0 ∷ []) 3 1)
+    ∷ unsound (holding 3 (row 0 0 none 1 ∷ row 1 0 none 0 ∷ row 1 0 none 0 ∷ []) 2 1)
+    ∷ unsound (next 0 1)
+    -- S3: frame 1, and word 2 is 1.
+    ∷ unsound (holding 2 (row 0 1 none 1 ∷ row 1 0 0 1 ∷ []) 2 1)
+    -- S4: the parent is the document itself; the parent is in no row.
+    ∷ unsound (holding 2 (row 0 0 none 1 ∷ row 1 1 1 1 ∷ []) 2 2)
+    ∷ unsound (holding 2 (row 0 0 none 1 ∷ row 2 1 1 1 ∷ []) 3 2)
+    -- S5: frame 1 under documents 0 and 1; two frames without a parent.
+    ∷ unsound (holding 3 (row 0 0 none 1 ∷ row 1 1 0 1 ∷ row 2 1 1 0 ∷ []) 3 2)
+    ∷ unsound (holding 2 (row 0 0 none 1 ∷ row 1 1 none 1 ∷ []) 2 2)
+    -- S6: a shown word of 2; two rows shown; none shown.
+    ∷ unsound (holding 2 (row 0 0 none 1 ∷ row 1 0 none 2 ∷ []) 2 1)
+    ∷ unsound (holding 2 (row 0 0 none 1 ∷ row 1 0 none 1 ∷ []) 2 1)
+    ∷ unsound (holding 2 (row 0 0 none 0 ∷ []) 1 1)
+    -- S7 is P9. S8: a word of a row that is not in use.
+    ∷ unsound (fresh 1 ++ 0 ∷ 0 ∷ 0 ∷ 7 ∷ [])
+    -- "document not in the record"; "document there, not visible"
+    ∷ small (Call.Visible X 9) (no 4) []
+    ∷ small (Call.Visible X 2) (ok 0) []
+    ∷ small (Call.Open X 9) (no 4) (X ∷ [])
+    ∷ small (Call.Open X 2) (no 5) (X ∷ [])
+    -- "no row left (Navigate: after removal; Load: n above C)"
+    ∷ small (Call.Load (replicate 26 7) bytesOfX) (no 7) (replicate 26 7 ∷ [])
+    -- "next document number, or for Open the next frame number, is 4294967295"
+    ∷ small (Call.Open (next none 1) 0) (no 8) (next none 1 ∷ [])
+    ∷ small (Call.Open (next 1 none) 0) (no 8) (next 1 none ∷ [])
+    ∷ small (Call.Navigate (next none 1) 0) (no 8) (next none 1 ∷ [])
+    ∷ small (Call.Navigate (next 1 none) 0) (ok 1) (holding 2 (row 0 0 none 0 ∷ row 1 0 none 1 ∷ []) 2 none ∷ [])
+    -- "a lent answer buffer is too short"
+    ∷ small (Call.Traverse (crossing 3 4) (pos 2) (replicate 7 9)) (no 9) (crossing 3 4 ∷ replicate 7 9 ∷ [])
+    ∷ small (Call.Lists (crossing 3 4) (replicate 1 9) (replicate 2 9)) (no 9) (replicate 1 9 ∷ replicate 2 9 ∷ [])
+    ∷ small (Call.Lists (crossing 3 4) (replicate 2 9) (replicate 1 9)) (no 9) (replicate 2 9 ∷ replicate 1 9 ∷ [])
+    ∷ small (Call.Outline X (replicate 7 9)) (no 9) (replicate 7 9 ∷ [])
     ∷ []
 
 pub smalls-hold : map (λ s. outcome (s .call)) smalls ≡ map (λ s. s .expected) smalls
 unfolding someBelow allBelow count earliest latest sum tab gather inRecord place isFrame withFlags climb step reach position steps visible
+    gone without hide navigated show forward backTarget rowBefore back walked shownDoc changeRow changes
     put tableOf wordsOf written soundTable? sound? takenList upcomingList stretched outlineFrame outlineOf
     number docsOf shownPlace parentOf contents body saved toldRow toldRows loaded fromSave? refusals accepted ladder outcome flatMap
 smalls-hold = refl
+
+-- "at most 512; words past 3 + 4C are neither read nor written": of 2056 words Fresh keeps the last five. A row by itself, since to compute so
+-- many stores one by one takes long.
+abbrev pub roomy : Small
+roomy = small (Call.Fresh (replicate 2056 7)) (Answer.gives []) ((1 ∷ 1 ∷ 1 ∷ 0 ∷ 0 ∷ none ∷ 1 ∷ (replicate 2044 0 ++ replicate 5 7)) ∷ [])
+
+-- Values put into a run from its start, and then what stood past them.
+put-first : (old values : List ℕ) → length values ≤ length old → put old 0 values ≡ values ++ drop (length values) old
+unfolding put
+put-first old values h = rw zero-add at (sets-eq values old 0 (rw zero-add h))
+
+pub roomy-holds : outcome (roomy .call) ≡ roomy .expected
+unfolding tableOf wordsOf written refusals accepted ladder outcome flatMap
+roomy-holds = ap (λ run. record { answer = Answer.gives []; lent = run ∷ [] }) (put-first _ _ (omega arith))

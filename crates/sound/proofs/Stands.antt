@@ -12,7 +12,7 @@ use Rattle.rules.specs.Sound.{sound?}
 use Rattle.laws.proofs.Tests.{test, count-most}
 use Rattle.laws.proofs.Loops.{earliest-none}
 use Rattle.laws.proofs.Reflect.{sound-is}
-use Rattle.laws.proofs.Standing.{count-rest, position-start, taken-start}
+use Rattle.laws.proofs.Standing.{count-rest, steps-most, position-start, taken-start}
 use Rattle.sound.specs.Quick.{comes}
 use Rattle.sound.specs.Pass.{Passed}
 use Rattle.sound.specs.Survey.{standOf}
@@ -44,21 +44,22 @@ module _ (words : List ℕ) (sound : So (sound? words)) (p : Pass) (w : Passed (
   pub begun-before : begun ≤ here
   begun-before = omega (arith, here-is, begun-is, count-most (λ k. not (isStep (rowsOf words) k)) start)
 
-  stand-steps : n - p .frames ≡ steps (rowsOf words)
+  stand-frames : p .frames ≡ length (rowsOf words) - steps (rowsOf words)
   unfolding steps
-  stand-steps = let a = w .frames-are in omega (arith, count-rest (isStep (rowsOf words)) (length (rowsOf words)))
+  stand-frames = omega (arith, w .frames-are, count-rest (isStep (rowsOf words)) (length (rowsOf words)))
+
+  stand-steps : n - p .frames ≡ steps (rowsOf words)
+  stand-steps = omega (arith, stand-frames, steps-most (rowsOf words))
 
   stand-position : here - begun ≡ position (rowsOf words)
   stand-position =
       let s = sound-is words .0 sound .table in
       omega (arith, here-is, begun-is, count-rest (isStep (rowsOf words)) start, ap (count (isStep (rowsOf words))) start-is ∙ position-start (rowsOf words) (s .s6) (s .s7))
 
-  stand-last : p .last .0 ≡ latest (taken (rowsOf words)) (length (rowsOf words))
+  stand-last : p .last ≡ record { 0 = latest (taken (rowsOf words)) (length (rowsOf words)) }
   stand-last =
       let s = sound-is words .0 sound .table in
-      w .last-is ∙ ap (latest (isStep (rowsOf words))) start-is ∙ sym (taken-start (rowsOf words) (s .s6) (s .s7))
+      ap (λ k. record { 0 = k }) (w .last-is ∙ ap (latest (isStep (rowsOf words))) start-is ∙ sym (taken-start (rowsOf words) (s .s6) (s .s7)))
 
-  pub stand-is : record { steps = n - p .frames; position = here - begun; upcoming = record { 0 = here }; last = p .last } ≡ standOf (rowsOf words)
-  stand-is =
-      rw (stand-steps, stand-position, here-is ∙ start-is) (ap (λ k.
-      record { steps = steps (rowsOf words); position = position (rowsOf words); upcoming = record { 0 = earliest (upcoming (rowsOf words)) (length (rowsOf words)) }; last = record { 0 = k } }) stand-last)
+  pub stand-is : record { frames = p .frames; steps = n - p .frames; position = here - begun; upcoming = record { 0 = here }; last = p .last } ≡ standOf (rowsOf words)
+  stand-is = rw (stand-steps, stand-position, stand-frames, here-is ∙ start-is, stand-last)

@@ -1,5 +1,5 @@
 -- Refusals 1 and 2, or where the window stands. Definitions.
-use Prim.Native.Nat.{ℕ}
+use Prim.Native.Nat.{ℕ, _-_}
 use mathlib.Core.Bool.{cond}
 use mathlib.Core.List.{List}
 use mathlib.Core.Path.{_≡_}
@@ -15,10 +15,11 @@ use Rattle.sound.specs.declared.Stand.{Stand}
 use Rattle.sound.specs.declared.Survey.{Survey}
 use Rattle.sound.specs.declared.Survey.the-variants.{Stands, No}
 
--- The steps, the position, the earliest upcoming step and the latest taken one.
+-- The frames, each of which has one row that is no step; the steps, the position, the earliest upcoming step and the latest taken one.
 abbrev pub standOf : List Row → Stand
 standOf rows =
     record {
+      frames = length rows - steps rows;
       steps = steps rows;
       position = position rows;
       upcoming = record { 0 = earliest (upcoming rows) (length rows) };

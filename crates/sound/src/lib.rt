@@ -306,9 +306,10 @@ pub fn examine(words: &[u32]) -> Check
     Check::Sound
 }
 
-// Where the window stands: how many steps there are, how many of them are taken, the place of the earliest upcoming one (the rows' end where there is none), and that of
-// the latest taken one (0 where there is none).
+// Where the window stands: how many frames and how many steps there are, how many of these are taken, the place of the earliest upcoming one (the rows' end where there is
+// none), and that of the latest taken one (0 where there is none).
 pub struct Stand {
+    pub frames: usize,
     pub steps: usize,
     pub position: usize,
     pub upcoming: RowPlace,
@@ -332,6 +333,7 @@ fn stand_of(words: &[u32], p: Pass) -> Stand
     let position = start - if_late(p.late, p.begun, p.frames);
     let last = p.last;
     Stand {
+        frames: p.frames,
         steps: n - p.frames,
         position,
         upcoming: RowPlace(start),

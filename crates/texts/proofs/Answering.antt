@@ -7,7 +7,8 @@ use native.Mathlib.Omega.{arith}
 use lib.ListN.{length, take, length-take}
 use lib.Seq.{take-all}
 use Rattle.laws.proofs.Tests.{clash, by-lt}
-use Rattle.lines.specs.Reply.{Said, answerText, Wrote}
+use Rattle.laws.specs.Writes.{Wrote}
+use Rattle.lines.specs.Reply.{Said, answerText}
 use Rattle.turns.specs.Turns.{Turned, turned}
 use Rattle.texts.specs.Feeds.{Answered, Settled, LastAnswered, Finishes}
 use Rattle.texts.specs.Texts.{unended}

@@ -5,7 +5,8 @@ use mir.Val.{Fits}
 use native.Mathlib.Omega.{arith}
 use mathlib.Core.List.{List}
 use lib.ListN.{length}
-use Rattle.lines.specs.Reply.{replyIs, answerText, Wrote}
+use Rattle.laws.specs.Writes.{Wrote}
+use Rattle.lines.specs.Reply.{replyIs, answerText}
 use Rattle.lines.specs.declared.Reply.{Reply}
 use Rattle.lines.proofs.Texts.{tens}
 use Rattle.lines.proofs.Answers.{Small, answer-within}

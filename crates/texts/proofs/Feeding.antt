@@ -29,7 +29,7 @@ module _ (out text : List ℕ) (used : ℕ) (fits : used + length text ≤ lengt
   n-is = length-append (take used out) text ∙ ap (λ k. k + length text) (length-take-le used out (omega arith))
 
   -- The bytes used, once more are written behind them, and the bytes past them.
-  take-written : take (used + length text) (put out used text) ≡ take used out ++ text
+  pub take-written : take (used + length text) (put out used text) ≡ take used out ++ text
   unfolding put
   take-written = rw (sets-eq text out used fits) (take-at (take used out ++ text) (drop (used + length text) out) (used + length text) n-is)
 

@@ -4,3 +4,5 @@ pub mod Enough
 pub mod Alike
 pub mod Answering
 pub mod Feeding
+pub mod Sessions
+pub mod Examples

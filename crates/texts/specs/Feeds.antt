@@ -6,7 +6,8 @@ use mathlib.Core.Logic.{_⊎_}
 use mathlib.Core.Path.{_≡_}
 use lib.Dec.{eqb}
 use lib.ListN.{length, take, drop}
-use Rattle.lines.specs.Reply.{answerText, Wrote}
+use Rattle.laws.specs.Writes.{Wrote}
+use Rattle.lines.specs.Reply.{answerText}
 use Rattle.turns.specs.Turns.{turned}
 use Rattle.texts.specs.Texts.{unended}
 use Rattle.texts.specs.declared.Cut.{Cut}
@@ -96,3 +97,8 @@ LastAnswered (line ∷ lines) words changes out words' changes' out' n = Answere
 abbrev pub Finishes : List ℕ → List ℕ → List ℕ → ℕ → List ℕ → Finished → List ℕ → List ℕ → List ℕ → Type 0
 Finishes words changes line kept out (Printed n) words' changes' out' = LastAnswered (unended (take kept line)) words changes out words' changes' out' n × (66 ≤ length out)
 Finishes words changes line kept out Short words' changes' out' = (words' ≡ words) × (changes' ≡ changes) × (out' ≡ out) × (length out < 66)
+
+-- Parts of a text read one after the other: the text so far, what it printed, and where the reader stands then.
+pub data Session (s : Reader) : List ℕ → List ℕ → Reader → Type 0 where
+  begins : Session s [] [] s
+  goes : {text out : List ℕ} {r : Reader} → Session s text out r → (part : List ℕ) (next : Reader) → Same next (readBy r part) → Session s (text ++ part) (out ++ printedBy r part) next

@@ -7,7 +7,8 @@ ghost use mathlib.Core.Path.{_≡_};
 ghost use Prim.Native.Nat.{_+_, _≤_, min};
 ghost use lib.ListN.{length, set, take};
 ghost use Rattle.base.specs.Numbers.{numberOf};
-ghost use Rattle.lines.specs.Reply.{Said, replyIs, answerText, Wrote};
+ghost use Rattle.laws.specs.Writes.{Wrote};
+ghost use Rattle.lines.specs.Reply.{Said, replyIs, answerText};
 ghost use Rattle.texts.specs.Cuts.{grown, Cuts};
 ghost use Rattle.texts.specs.Feeds.{Answered, Settled, Feeds, Finishes};
 

@@ -6,7 +6,6 @@ use native.Mathlib.Omega.{arith}
 use lib.ListN.{length, length-set}
 use borrow.Author.Needs.{needs}
 use denote.Ref.{now}
-use Rattle.rules.specs.Steps.{position, steps}
 use Rattle.rules.specs.Words.{rowsOf}
 use Rattle.laws.proofs.Central.{position-steps}
 use Rattle.laws.proofs.Standing.{upto-start, steps-most}
@@ -23,29 +22,18 @@ Inv-loop words upcoming₀ n first i₀ upcoming i =
 abbrev μ-loop : tie.MeasureT-loop
 μ-loop words upcoming₀ n first i₀ upcoming i = n - i
 
--- Where the first upcoming step were, if all rows from there on were steps.
-first-is : (c : tie.After-document Inv-loop μ-loop) →
-    let c6 = c .before .before .before .before .before .before in
-    let s = c6 .before .before .before .args in
-    c6 .row-count .result - s .s .steps + s .s .position ≡ length (rowsOf (now (s .words))) - steps (rowsOf (now (s .words))) + position (rowsOf (now (s .words)))
-first-is c =
-    let c6 = c .before .before .before .before .before .before in
-    let c9 = c6 .before .before .before in
-    omega (arith, c6 .row-count .ensures, ap (λ s. s .steps) (c9 .pre .0 .1), ap (λ s. s .position) (c9 .pre .0 .1))
-
 -- The place in the list is within it.
 room : (c : tie.After-document Inv-loop μ-loop) →
-    let c6 = c .before .before .before .before .before .before in
-    let s = c6 .before .before .before .args .s in
-    let first = c6 .row-count .result - s .steps + s .position in
+    let s = c .before .before .before .before .before .before .before .before .args .s in
+    let first = s .frames + s .position in
     (first ≤ c .before .before .loop .i) × (c .before .before .loop .i - first < length (c .before .before .loop .upcoming))
 room c =
     let c2 = c .before .before in
     let c3 = c2 .before in
-    let c9 = c3 .before .before .before .before .before .before in
-    let t = examined-sound _ (c9 .pre .0 .0) .table in
-    let l = first-room (rowsOf (now (c9 .args .words))) (t .s6) (t .s7) _ (c9 .pre .1) (c2 .loop .i) _ (omega (arith, c3 .later .ensures, c2 .loop .inv .1)) (omega (arith, c3 .later .ensures, c2 .loop .inv .1, ap (λ s. s .upcoming .0) (c9 .pre .0 .1))) (omega (arith, c2 .loop .inv .0)) (first-is c) in
-    (l .0, omega (arith, l .1, ap (λ s. s .steps) (c9 .pre .0 .1), ap (λ s. s .position) (c9 .pre .0 .1), c9 .pre .2, c2 .loop .inv .3))
+    let c8 = c3 .before .before .before .before .before in
+    let t = examined-sound _ (c8 .pre .0 .0) .table in
+    let l = first-room (rowsOf (now (c8 .args .words))) (t .s6) (t .s7) _ (c8 .pre .1) (c2 .loop .i) _ (omega (arith, c3 .later .ensures, c2 .loop .inv .1)) (omega (arith, c3 .later .ensures, c2 .loop .inv .1, ap (λ s. s .upcoming .0) (c8 .pre .0 .1))) (omega (arith, c2 .loop .inv .0)) (ap (λ s. s .frames + s .position) (c8 .pre .0 .1)) in
+    (l .0, omega (arith, l .1, ap (λ s. s .steps) (c8 .pre .0 .1), ap (λ s. s .position) (c8 .pre .0 .1), c8 .pre .2, c2 .loop .inv .3))
 
 pub list-upcoming-spec : {M : Type 1} → statement M
 list-upcoming-spec =
@@ -54,19 +42,17 @@ list-upcoming-spec =
     μ-loop
     (λ c κs. search needs)
     (λ c. let c4 = c .before .before .before .before in
-    omega (arith, c .before .row-count .ensures, ap (λ s. s .steps) (c4 .pre .0 .1), steps-most (rowsOf (now (c4 .args .words)))))
-    (λ c. let c5 = c .before .before .before .before .before in
-    let h = examined-fits _ (c5 .pre .0 .0) in
-    let p = ap (λ s. s .position) (c5 .pre .0 .1) in
-    let q = position-steps (rowsOf (now (c5 .args .words))) in
-    let r = steps-most (rowsOf (now (c5 .args .words))) in search needs)
+    let h = examined-fits _ (c4 .pre .0 .0) in
+    let p = ap (λ s. s .frames + s .position) (c4 .pre .0 .1) in
+    let q = position-steps (rowsOf (now (c4 .args .words))) in
+    let r = steps-most (rowsOf (now (c4 .args .words))) in search needs)
     (λ c κs. search needs)
-    (λ c. let c6 = c .before .before .before .before .before .before in
-    let t = examined-sound _ (c6 .pre .0 .0) .table in
-    let r = c .before .before .before .row-count .ensures in
-    (r, omega arith, omega (arith, c .later .ensures, ap (λ s. s .upcoming .0) (c6 .pre .0 .1), c6 .pre .1 .upto, upto-start (rowsOf (now (c6 .args .words))) (t .s6) (t .s7)), refl, λ old h. h))
-    (λ c κs. let c8 = c .before .before .before .before .before .before .before .before in
-    let h = examined-fits _ (c8 .pre .0 .0) in search needs)
+    (λ c. let c5 = c .before .before .before .before .before in
+    let t = examined-sound _ (c5 .pre .0 .0) .table in
+    let r = c .before .before .row-count .ensures in
+    (r, omega arith, omega (arith, c .later .ensures, ap (λ s. s .upcoming .0) (c5 .pre .0 .1), c5 .pre .1 .upto, upto-start (rowsOf (now (c5 .args .words))) (t .s6) (t .s7)), refl, λ old h. h))
+    (λ c κs. let c7 = c .before .before .before .before .before .before .before in
+    let h = examined-fits _ (c7 .pre .0 .0) in search needs)
     (λ c. room c .0)
     (λ c. let l = room c .1 in search needs)
     (λ c. room c .1)
@@ -74,20 +60,20 @@ list-upcoming-spec =
     (λ c. search needs)
     (λ c. let c2 = c .before .before in
     let c3 = c2 .before in
-    let c9 = c3 .before .before .before .before .before .before in
-    let t = examined-sound _ (c9 .pre .0 .0) .table in
+    let c8 = c3 .before .before .before .before .before in
+    let t = examined-sound _ (c8 .pre .0 .0) .table in
     let inv = c2 .loop .inv in (
       inv .0,
       omega arith,
       omega arith,
       simp length-set (inv .3),
-      λ old h. upcoming-on (rowsOf (now (c9 .args .words))) (t .s6) (t .s7) _ (c9 .pre .1) _ _ _ old _ (omega (arith, c3 .later .ensures)) (omega (arith, c3 .later .ensures, ap (λ s. s .upcoming .0) (c9 .pre .0 .1))) (omega arith) (first-is c) (c .document .ensures) (inv .4 old h),
+      λ old h. upcoming-on (rowsOf (now (c8 .args .words))) (t .s6) (t .s7) _ (c8 .pre .1) _ _ _ old _ (omega (arith, c3 .later .ensures)) (omega (arith, c3 .later .ensures, ap (λ s. s .upcoming .0) (c8 .pre .0 .1))) (omega arith) (ap (λ s. s .frames + s .position) (c8 .pre .0 .1)) (c .document .ensures) (inv .4 old h),
     ))
     (λ c. c .before .loop .inv .3)
     (λ c. let c1 = c .before in
     let c2 = c1 .before in
-    let c8 = c2 .before .before .before .before .before .before in
-    let t = examined-sound _ (c8 .pre .0 .0) .table in
+    let c7 = c2 .before .before .before .before .before in
+    let t = examined-sound _ (c7 .pre .0 .0) .table in
     let inv = c1 .loop .inv in
-    λ old h. upcomings-done (rowsOf (now (c8 .args .words))) (t .s6) (t .s7) _ (c8 .pre .1) _ old _ (omega arith) (omega arith)
-    (inv .4 old (upcoming-from (rowsOf (now (c8 .args .words))) (t .s6) (t .s7) _ (c8 .pre .1) _ old _ (c2 .later .ensures ∙ ap (λ s. max (c8 .args .from .0) (s .upcoming .0)) (c8 .pre .0 .1)) h))))
+    λ old h. upcomings-done (rowsOf (now (c7 .args .words))) (t .s6) (t .s7) _ (c7 .pre .1) _ old _ (omega arith) (omega arith)
+    (inv .4 old (upcoming-from (rowsOf (now (c7 .args .words))) (t .s6) (t .s7) _ (c7 .pre .1) _ old _ (c2 .later .ensures ∙ ap (λ s. max (c7 .args .from .0) (s .upcoming .0)) (c7 .pre .0 .1)) h))))

@@ -13,14 +13,10 @@ next-row-spec =
     tie.close (tie.spec
     (λ c κs. search needs)
     (λ c κs. let c1 = c .before in
-    let c3 = c1 .before .before in
-    let h = c3 .pre .ready .fits in let p = row-places _ _ _ (c3 .pre) _ (c1 .next-change .ensures) in let i = p .0 in let j = p .1 in search needs)
+    row-places _ _ _ (c1 .before .before .pre) _ (c1 .next-change .ensures) .0)
     (λ c κs. let c2 = c .before .before in
-    let c4 = c2 .before .before in
-    let h = c4 .pre .ready .fits in let p = row-places _ _ _ (c4 .pre) _ (c2 .next-change .ensures) in let i = p .0 in let j = p .1 in search needs)
-    (λ c κs. let c3 = c .before .before .before in
-    let c5 = c3 .before .before in
-    let h = c5 .pre .ready .fits in let p = row-places _ _ _ (c5 .pre) _ (c3 .next-change .ensures) in let i = p .0 in let j = p .1 in search needs)
+    row-places _ _ _ (c2 .before .before .pre) _ (c2 .next-change .ensures) .1)
+    (λ c κs. search needs)
     (λ c. search needs)
     (λ c. let c1 = c .before in
     let c2 = c1 .before in

@@ -1,6 +1,6 @@
 -- `lines::put_number` meets its contract. Assumes nothing.
 use borrow.Author.Needs.{needs}
-use Rattle.lines.proofs.Texts.{wrote-then}
+use Rattle.laws.proofs.Writes.{wrote-then}
 use Rattle.lines.proofs.put_number.Statement.{statement}
 use Rattle.lines.proofs.put_number.Tie as tie
 

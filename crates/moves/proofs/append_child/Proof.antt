@@ -4,29 +4,29 @@ use mathlib.Core.Path.{ap, _∙_}
 use native.Mathlib.Omega.{arith}
 use denote.Ref.{now}
 use Rattle.laws.proofs.Writes.{length-put}
-use Rattle.sound.proofs.Checks.{examined-long}
-use Rattle.moves.proofs.Ways.{opening, open-done}
+use Rattle.laws.proofs.Accepted.{open-relies}
+use Rattle.moves.proofs.Ways.{open-done}
 use Rattle.moves.proofs.append_child.Statement.{statement}
 use Rattle.moves.proofs.append_child.Tie as tie
 
 pub append-child-spec : {M : Type 1} → statement M
 append-child-spec =
     tie.close (tie.spec
-    (λ c κs. let l = examined-long _ (opening _ _ (c .before .before .pre) .examined) in omega arith)
-    (λ c κs. let l = examined-long _ (opening _ _ (c .before .before .before .before .pre) .examined) in omega arith)
+    (λ c κs. let l = open-relies _ _ (c .before .before .pre) .long in omega arith)
+    (λ c κs. let l = open-relies _ _ (c .before .before .before .before .pre) .long in omega arith)
     (λ c κs. let c6 = c .before .before .before .before .before .before in
-    let l = examined-long _ (opening _ _ (c6 .pre) .examined) in omega arith)
+    let l = open-relies _ _ (c6 .pre) .long in omega arith)
     (λ c κs. let c8 = c .before .before .before .before .before .before .before .before in
-    let o = opening _ _ (c8 .pre) .room in omega arith)
+    let o = open-relies _ _ (c8 .pre) .roomy in omega arith)
     (λ c. let c12 = c .before .before .before .before .before .before .before .before .before .before .before .before in
-    let o = opening _ _ (c12 .pre) .room in omega arith)
+    let o = open-relies _ _ (c12 .pre) .roomy in omega arith)
     (λ c. let c13 = c .before .before .before .before .before .before .before .before .before .before .before .before .before in
-    let o = opening _ _ (c13 .pre) .document in omega arith)
+    let o = open-relies _ _ (c13 .pre) .doc in omega arith)
     (λ c. let c14 = c .before .before .before .before .before .before .before .before .before .before .before .before .before .before in
-    let o = opening _ _ (c14 .pre) .frame in omega arith)
+    let o = open-relies _ _ (c14 .pre) .frame in omega arith)
     (λ c κs. let c5 = c .before .before .before .before .before in
     let c14 = c5 .before .before .before .before .before .before .before .before .before in
-    let o = opening _ _ (c14 .pre) in let l = examined-long _ (o .examined) in let r = o .room in let e = ap length (c5 .put-row .ensures) ∙ length-put _ _ _ in omega arith)
+    let o = open-relies _ _ (c14 .pre) in let l = o .long in let r = o .roomy in let e = ap length (c5 .put-row .ensures) ∙ length-put _ _ _ in omega arith)
     (λ c. let c2 = c .before .before in
     let c8 = c2 .before .before .before .before .before .before in
     ap length (c2 .put-head .ensures) ∙ length-put _ _ _ ∙ ap length (c8 .put-row .ensures) ∙ length-put _ _ _)

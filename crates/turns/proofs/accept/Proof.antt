@@ -1,7 +1,8 @@
 -- `turns::accept` meets its contract. Assumes nothing.
 use borrow.Author.Needs.{needs}
 use denote.Ref.{now}
-use Rattle.turns.proofs.Told.{accept-stands, accept-refused}
+use Rattle.turns.specs.Turns.{okAt}
+use Rattle.turns.proofs.Told.{said-at}
 use Rattle.turns.proofs.accept.Statement.{statement}
 use Rattle.turns.proofs.accept.Tie as tie
 
@@ -14,8 +15,8 @@ accept-spec =
     (λ c. let c1 = c .before in
     let c3 = c1 .before .before in
     let c5 = c3 .before .before in
-    accept-stands (now (c5 .args .words)) _ (c3 .position .ensures) _ _ _ _ (c1 .p .given .1))
+    said-at (λ a. okAt a (c5 .args .v)) (now (c5 .args .words)) _ _ (c3 .position .ensures) (c1 .p .given .1))
     (λ c. let c1 = c .before in
     let c3 = c1 .before .before in
     let c5 = c3 .before .before in
-    accept-refused (now (c5 .args .words)) _ (c3 .position .ensures) _ _ (c1 .r .given .1)))
+    said-at (λ a. okAt a (c5 .args .v)) (now (c5 .args .words)) _ _ (c3 .position .ensures) (c1 .r .given .1)))

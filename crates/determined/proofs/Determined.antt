@@ -1,0 +1,49 @@
+-- Each public call's promise determines its answer and lent words. Tuples are equal part by part: `λ i.` takes the parts' equations together. Assumes nothing.
+use Prim.Native.Nat.{ℕ}
+use mathlib.Core.List.{List, [], _∷_}
+use mathlib.Core.Path.{_≡_, ap, sym, _∙_}
+use mathlib.Mathlib.Logic.Function.Defs.{Injective}
+use lib.ListN.{getD}
+use Rattle.rules.specs.Calls.{Call, Answer, outcome}
+use Rattle.changes.specs.declared.ChangeRow.{ChangeRow}
+use Rattle.changes.specs.Changes.{plain}
+use Rattle.changes.proofs.Filling.{plain-same}
+use Rattle.determined.specs.Determined.{AtMostOne, OneResult, Determined}
+use Rattle.determined.proofs.Injective.{fresh-injective, opened-injective, navigated-injective, traversed-injective, standing-injective, sight-injective, listed-injective, stretch-injective, outlined-injective, saving-injective, loading-injective, reply-injective, command-injective}
+use Rattle.determined.proofs.Shifts.{shift-alike}
+
+-- No two results of a call have one answer: then its outcome tells the result, with the lent runs.
+alike : {A : Type 0} {is : A → Answer} → Injective is → (c : Call) → OneResult is c
+alike inj c x y e f = let g = sym e ∙ f in λ i. (inj (x .0) (y .0) (ap (λ o. o .answer) g) i, g i .lent)
+
+-- Lent runs that are the same hold the same change rows.
+rows-alike : (words words' : List ℕ) (rows rows' : List ChangeRow) → words ∷ plain rows ∷ [] ≡ words' ∷ plain rows' ∷ [] → rows ≡ rows'
+rows-alike words words' rows rows' e = plain-same rows rows' (ap (λ l. getD l 1 []) e)
+
+-- "Each public call's promise determines answer and lent words for every input [..] Any two outcomes that satisfy a promise are shown equal."
+pub determined : Determined
+determined =
+    record {
+      fresh = λ words. alike fresh-injective (Call.Fresh words);
+      open-frame = λ words parent. alike opened-injective (Call.Open words parent);
+      navigate = λ words from. alike navigated-injective (Call.Navigate words from);
+      traverse = λ words δ room. alike traversed-injective (Call.Traverse words δ room);
+      position = λ words. alike standing-injective (Call.Position words);
+      visible = λ words d. alike sight-injective (Call.Visible words d);
+      lists = λ words takens upcomings. alike listed-injective (Call.Lists words takens upcomings);
+      stretch-count = λ takens upcomings δ. alike stretch-injective (Call.StretchCount takens upcomings δ);
+      outline = λ words room. alike outlined-injective (Call.Outline words room);
+      save = λ words room. alike saving-injective (Call.Save words room);
+      load = λ words bytes. alike loading-injective (Call.Load words bytes);
+      stretch = λ takens upcomings δ x y e f. e ∙ sym f;
+      traverse-rows = λ words δ rows (r, words', rows') (q, words'', rows'') e f.
+          let g = alike traversed-injective (Call.Traverse words δ (plain rows)) (r, words' ∷ plain rows' ∷ []) (q, words'' ∷ plain rows'' ∷ []) e f in
+          λ i. (g i .0, getD (g i .1) 0 [], rows-alike words' words'' rows' rows'' (ap (λ z. z .1) g) i);
+      shift = λ words δ room (r, words', text) (q, words'', text') (s, h, a, t) (s', h', a', t').
+          let g = shift-alike words δ room s s' words' words'' h h' in λ i. ((sym a ∙ g .0 ∙ a') i, g .1 i, (sym t ∙ g .2 ∙ t') i);
+      turn = λ words changes line x y e f. let g = sym e ∙ f in λ i. (reply-injective (x .0) (y .0) (ap (λ z. z .said) g) i, g i .words, g i .changes);
+      parse = λ line x y e f. command-injective x y (e ∙ sym f);
+      host = λ c olds x y e f. let g = sym e ∙ f in λ i. (g i .number, g i .outs, g i .lent);
+      host-rows = λ words δ rows olds (n, outs, words', rows') (m, outs', words'', rows'') e f.
+          let g = sym e ∙ f in λ i. (g i .number, g i .outs, getD (g i .lent) 0 [], rows-alike words' words'' rows' rows'' (ap (λ z. z .lent) g) i);
+    }
