@@ -44,10 +44,7 @@ fn answer(
         at += f.taken;
         len = f.kept;
     }
-    Told {
-        kept: len,
-        written,
-    }
+    Told { kept: len, written }
 }
 
 // What a read came to: with so many bytes of the last line kept there is more, or the input has ended; or it failed.

@@ -100,8 +100,8 @@ kept-bytes line run kept =
         let f : length (take m run) ≡ m = length-take m run ∙ omega arith in
         let e : kept + length (take m run) ≡ length line = omega arith in
         let part : put line kept run ≡ put line kept (take m run) =
-            ap (put line kept) (sym (take-append-drop m run)) ∙ sym (put-put (take m run) (drop m run) line kept)
-            ∙ put-out (drop m run) (put line kept (take m run)) (kept + length (take m run)) (omega (arith, length-put line kept (take m run))) in
+        ap (put line kept) (sym (take-append-drop m run)) ∙ sym (put-put (take m run) (drop m run) line kept)
+        ∙ put-out (drop m run) (put line kept (take m run)) (kept + length (take m run)) (omega (arith, length-put line kept (take m run))) in
         let n : length (take kept line ++ take m run) ≡ length line = length-append (take kept line) (take m run) ∙ omega arith in
         let q : length (take kept line) + m ≡ length line = omega arith in
         rw (g, part, sets-eq (take m run) line kept (omega arith))

@@ -66,7 +66,7 @@ module _ (text : List ℕ) (from : ℕ) (line₀ : List ℕ) (kept₀ i : ℕ) (
   reads-ended l b e n =
       let d : drop i text ≡ 10 ∷ drop (suc i) text = drop-cons text i 0 l ∙ ap (λ b. b ∷ drop (suc i) text) (sym e ∙ n) in
       let here : record { at = i + 1; kept = kept; ended = true } ≡ cutOf (10 ∷ drop (suc i) text) i (length line₀) kept =
-          let at : i + 1 ≡ i + 0 + 1 = omega arith in let k : kept ≡ max kept (min (length line₀) (kept + 0)) = omega arith in rw (← at, ← k) refl in
+      let at : i + 1 ≡ i + 0 + 1 = omega arith in let k : kept ≡ max kept (min (length line₀) (kept + 0)) = omega arith in rw (← at, ← k) refl in
       record { cut-is = here ∙ ap (λ s. cutOf s i (length line₀) kept) (sym d) ∙ r .cut-same; line-is = ap (λ s. put line kept (lineIn s)) (sym d) ∙ r .line-same }
 
   -- The text ends here.
@@ -75,5 +75,5 @@ module _ (text : List ℕ) (from : ℕ) (line₀ : List ℕ) (kept₀ i : ℕ) (
   reads-past l =
       let d : drop i text ≡ [] = drop-of-length-le text l in
       let here : record { at = i; kept = kept; ended = false } ≡ cutOf [] i (length line₀) kept =
-          let at : i ≡ i + 0 + 0 = omega arith in let k : kept ≡ max kept (min (length line₀) (kept + 0)) = omega arith in rw (← at, ← k) refl in
+      let at : i ≡ i + 0 + 0 = omega arith in let k : kept ≡ max kept (min (length line₀) (kept + 0)) = omega arith in rw (← at, ← k) refl in
       record { cut-is = here ∙ ap (λ s. cutOf s i (length line₀) kept) (sym d) ∙ r .cut-same; line-is = ap (λ s. put line kept (lineIn s)) (sym d) ∙ r .line-same }

@@ -2,7 +2,7 @@
 use Prim.Native.Nat.{ℕ, _+_, _-_, _*_, _≤_, _<_}
 use mathlib.Core.Bool.{Bool, true, false, _&&_, and-eq-true-iff}
 use mathlib.Core.List.{List, [], _∷_, _++_, append-nil}
-use mathlib.Core.Logic.{_⊎_, inl, inr}
+use mathlib.Core.Logic.{_⊎_, inl, inr, ⊎-elim}
 use mathlib.Core.Path.{_≡_, refl, sym, ap, _∙_, subst}
 use native.Mathlib.Omega.{arith}
 use lib.Dec.{leb, ltb}
@@ -19,6 +19,7 @@ use Rattle.texts.specs.Cuts.{lineIn, ends?, grown, Cuts}
 use Rattle.texts.specs.Feeds.{Reader, onward, readBy, printedBy, Alike, Same, reader, Answered, Settled, Reads, Feeds}
 use Rattle.texts.specs.declared.Cut.{Cut}
 use Rattle.texts.specs.declared.Place.{Place}
+use Rattle.texts.specs.declared.Fed.{Fed}
 use Rattle.texts.proofs.Lines.{read-append, printed-append, grownBy, ended-read, on-read}
 use Rattle.texts.proofs.Alike.{alike-turned, same-trans, same-self, same-read, same-printed, kept-alike}
 
@@ -81,7 +82,7 @@ module _ (s : Reader) (text : List ℕ) (at : ℕ) (words changes line : List �
       let e : c .at ≡ at + length rest = c-at ∙ omega arith in
       let all : take (length rest) rest ≡ rest = take-all (length rest) rest (omega arith) in
       let h : Same (reader words changes line' (c .kept)) (readBy here (take (length rest) rest)) =
-          rw (all, o .1) (record { words-are = refl; changes-are = refl; begun-alike = same-line }) in
+      rw (all, o .1) (record { words-are = refl; changes-are = refl; begun-alike = same-line }) in
       record {
         within = omega arith;
         stands = rw e (stands-on (length rest) (reader words changes line' (c .kept)) h);
@@ -108,7 +109,7 @@ module _ (s : Reader) (text : List ℕ) (at : ℕ) (words changes line : List �
       let short = a .short in
       let fit : used + length said ≤ length out = omega arith in
       let h : Same (reader words' changes' line' 0) (readBy here (take (length (lineIn rest) + 1) rest)) =
-          rw (o .1) (record { words-are = a .words-are ∙ ap (λ t. t .words) told; changes-are = a .changes-are ∙ ap (λ t. t .changes) told; begun-alike = inl refl }) in
+      rw (o .1) (record { words-are = a .words-are ∙ ap (λ t. t .words) told; changes-are = a .changes-are ∙ ap (λ t. t .changes) told; begun-alike = inl refl }) in
       record {
         within = omega arith;
         stands = rw e (stands-on (length (lineIn rest) + 1) (reader words' changes' line' 0) h);
@@ -128,9 +129,10 @@ module _ (s : Reader) (text : List ℕ) (at : ℕ) (words changes line : List �
       let e = ap (λ c. c .ended) (k .cut-is) in
       test (ends? rest)
       (λ t.
-      let a = h .ended (e ∙ t) in
-      (subst (λ n. Reads s text (c .at) (reader words' changes' line' n) out₀ (p .used) out') (sym (a .1)) (reads-answered t words' changes' out' (p .used) (a .0) room),
-        ap length (a .0 .text-is .list) ∙ length-put out used _ ∙ sized))
+      let a = h .ended (e ∙ t) in (
+        subst (λ n. Reads s text (c .at) (reader words' changes' line' n) out₀ (p .used) out') (sym (a .1)) (reads-answered t words' changes' out' (p .used) (a .0) room),
+        ap length (a .0 .text-is .list) ∙ length-put out used _ ∙ sized,
+      ))
       (λ f.
       let o = h .on (e ∙ f) in
       rw (o .0, o .1, o .2, o .3) (reads-on f, sized))
@@ -158,3 +160,9 @@ goes-out n at m l l₀ u h a b s wide =
     let e : leb 65 n && ltb at m && leb 66 (l - u) ≡ true = simp and-eq-true-iff ((le-leb 65 n wide, lt-ltb at m t), le-leb 66 (l - u) (omega arith)) in
     absurd (clash e h)))
     (λ t. inl (omega arith))
+
+-- Of a text that is not empty a byte at least is taken, where out has room for an answer.
+pub fed-forward : (text words changes line : List ℕ) (kept : ℕ) (out : List ℕ) (f : Fed) (words' changes' line' out' : List ℕ) → Feeds text words changes line kept out f words' changes' line' out' →
+    65 ≤ length line → 66 ≤ length out → 0 < length text → 0 < f .taken
+fed-forward text words changes line kept out f words' changes' line' out' h wide room some =
+    ⊎-elim (λ e. omega arith) (λ l. omega (arith, h .reads .bounded)) (h .goes-on wide)

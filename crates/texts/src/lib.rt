@@ -124,17 +124,11 @@ fn settle(
     ensures { λ r. ⌜ Settled c (now (words .entry)) (now (changes .entry)) (now (line .entry)) (now (out .entry)) used (now (words .exit)) (now (changes .exit)) (now (out .exit)) r ⌝ }
 {
     if !c.ended {
-        return Place {
-            kept: c.kept,
-            used,
-        };
+        return Place { kept: c.kept, used };
     }
     let n = least(c.kept, line.len());
     let end = answer_line(&line[0..n], words, changes, out, used);
-    Place {
-        kept: 0,
-        used: end,
-    }
+    Place { kept: 0, used: end }
 }
 
 // How much of a part of a text was read, how many bytes of its last line are kept, and how many bytes of answers there are.
