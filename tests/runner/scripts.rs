@@ -70,13 +70,34 @@ fn bad_line(random: &mut Random) -> Vec<u8> {
     }
 }
 
-/// What the command prints for an input, and whether it ended well.
-fn run_command(command: &[String], input: &[u8]) -> (Vec<u8>, bool) {
+/// An input cut into pieces, in which it is written one after the other, so that a line may come in several reads.
+fn pieces(random: &mut Random, input: &[u8]) -> Vec<Vec<u8>> {
+    let longest = random.pick(&[1, 3, 20, 70, 5000]);
+    let (mut cut, mut at) = (Vec::new(), 0);
+    while at < input.len() && cut.len() < 200 {
+        let end = (at + 1 + random.below(longest)).min(input.len());
+        cut.push(input[at..end].to_vec());
+        at = end;
+    }
+    cut.push(input[at..].to_vec());
+    cut
+}
+
+/// What the command prints for an input, and whether it ended well. There is a pause between two pieces.
+fn run_command(command: &[String], input: Vec<Vec<u8>>) -> (Vec<u8>, bool) {
     let child = Command::new(&command[0]).args(&command[1..]).stdin(Stdio::piped()).stdout(Stdio::piped()).spawn();
     let mut child = child.unwrap_or_else(|error| panic!("{} does not start: {error}", command[0]));
     let mut stdin = child.stdin.take().unwrap();
-    let input = input.to_vec();
-    let writer = std::thread::spawn(move || drop(stdin.write_all(&input)));
+    let writer = std::thread::spawn(move || {
+        for (number, piece) in input.iter().enumerate() {
+            if number > 0 {
+                std::thread::sleep(std::time::Duration::from_micros(300));
+            }
+            if stdin.write_all(piece).is_err() {
+                break;
+            }
+        }
+    });
     let mut printed = Vec::new();
     child.stdout.take().unwrap().read_to_end(&mut printed).expect("the command's output can be read");
     writer.join().unwrap();
@@ -95,7 +116,9 @@ pub fn run(seed: u64, scripts: u64, command: &[String]) -> bool {
             _ => random.pick(&[2, 10, 10, 50, 50, 200, 200, 700]),
         };
         let (input, wanted) = script(&mut random, size);
-        let (given, ended_well) = run_command(command, &input);
+        let whole = random.chance(30);
+        let cut = if whole { vec![input.clone()] } else { pieces(&mut random, &input) };
+        let (given, ended_well) = run_command(command, cut);
         lines += wanted.split(|&byte| byte == b'\n').count() - 1;
         if given != wanted || !ended_well {
             differences += 1;

@@ -33,7 +33,7 @@ use Rattle.lines.specs.declared.Command.the-variants as Reads
 use Rattle.lines.specs.declared.Reply.{Reply}
 use Rattle.lines.specs.declared.Reply.the-variants as Replies
 use Rattle.lines.specs.Lines.{Command, commandIs}
-use Rattle.turns.specs.Turns.{Said, replyIs}
+use Rattle.lines.specs.Reply.{Said, replyIs}
 
 -- The refusal that a number is given for.
 refusalBy : ℕ → Refusal

@@ -19,7 +19,8 @@ use Rattle.loads.specs.Answers.{loadingIs}
 use Rattle.lines.specs.declared.Command.{Command}
 use Rattle.lines.specs.declared.Reply.{Reply}
 use Rattle.lines.specs.Lines.{parse as parseOf, commandIs}
-use Rattle.turns.specs.Turns.{turned, replyIs}
+use Rattle.lines.specs.Reply.{replyIs}
+use Rattle.turns.specs.Turns.{turned}
 use Rattle.frame_history.specs.Face.{face}
 
 -- "Any two outcomes that satisfy a promise are shown equal": P is the promise.

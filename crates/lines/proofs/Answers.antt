@@ -8,21 +8,21 @@ use Rattle.base.specs.Numbers.{numberOf}
 use Rattle.base.specs.declared.Refusal.{Refusal}
 use Rattle.base.specs.declared.Refusal.the-variants as Refusals
 use Rattle.laws.specs.Writes.{Wrote}
-use Rattle.lines.specs.Reply.{statusText, answerText}
+use Rattle.lines.specs.Reply.{replyIs, statusText, answerText}
 use Rattle.lines.specs.declared.Reply.{Reply}
 use Rattle.lines.proofs.Texts.{tens, status-within}
 use Rattle.lines.specs.declared.Reply.the-variants as Replies
 
 module _ (reply : Reply) where
-  pub answer-ok : (v p s : ℕ) → reply ≡ Replies.Ok v p s → answerText reply ≡ statusText 111 107 v p s
+  pub answer-ok : (v p s : ℕ) → reply ≡ Replies.Ok v p s → answerText (replyIs reply) ≡ statusText 111 107 v p s
   unfolding answerText
   answer-ok v p s e = rw e refl
 
-  pub answer-no : (k : ℕ) (r : Refusal) (p s : ℕ) → k ≡ numberOf r → reply ≡ Replies.No r p s → answerText reply ≡ statusText 110 111 k p s
+  pub answer-no : (k : ℕ) (r : Refusal) (p s : ℕ) → k ≡ numberOf r → reply ≡ Replies.No r p s → answerText (replyIs reply) ≡ statusText 110 111 k p s
   unfolding answerText
   answer-no k r p s f e = rw (e, f) refl
 
-  pub answer-bad : reply ≡ Replies.Bad → answerText reply ≡ 98 ∷ 97 ∷ 100 ∷ 10 ∷ []
+  pub answer-bad : reply ≡ Replies.Bad → answerText (replyIs reply) ≡ 98 ∷ 97 ∷ 100 ∷ 10 ∷ []
   unfolding answerText
   answer-bad e = rw e refl
 
@@ -52,7 +52,7 @@ number-small Refusals.Full = omega arith
 number-small Refusals.UsedUp = omega arith
 number-small Refusals.ShortBuffer = omega arith
 
-pub answer-within : (reply : Reply) → Small reply → length (answerText reply) ≤ 66
+pub answer-within : (reply : Reply) → Small reply → length (answerText (replyIs reply)) ≤ 66
 unfolding answerText
 answer-within (Replies.Ok v p s) h = status-within 111 107 v p s (h .0) (h .1) (h .2)
 answer-within (Replies.No r p s) h = status-within 110 111 (numberOf r) p s (number-small r) (h .0) (h .1)

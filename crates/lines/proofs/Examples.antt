@@ -3,11 +3,9 @@ use mathlib.Core.List.{[], _∷_}
 use mathlib.Core.Path.{_≡_, refl}
 use lib.IntN.{pos, negsuc}
 use Rattle.rules.specs.Below.{allBelow}
-use Rattle.base.specs.declared.Refusal.the-variants.{Absent}
 use Rattle.lines.specs.Decimal.{decimalBy, decimal, decimal?, spelled, upTo, numeral}
 use Rattle.lines.specs.Lines.{Command, starts?, going, worded, parse}
-use Rattle.lines.specs.Reply.{statusText, answerText}
-use Rattle.lines.specs.declared.Reply.the-variants as Replies
+use Rattle.lines.specs.Reply.{Said, statusText, answerText}
 
 -- `open 0`
 pub open-root : parse (111 ∷ 112 ∷ 101 ∷ 110 ∷ 32 ∷ 48 ∷ []) ≡ Command.opens 0
@@ -85,21 +83,21 @@ unfolding parse worded going starts? numeral upTo decimal? spelled allBelow
 more-after = refl
 
 -- `ok 1 0/0`
-pub ok-one : answerText (Replies.Ok 1 0 0) ≡ 111 ∷ 107 ∷ 32 ∷ 49 ∷ 32 ∷ 48 ∷ 47 ∷ 48 ∷ 10 ∷ []
+pub ok-one : answerText (Said.ok 1 0 0) ≡ 111 ∷ 107 ∷ 32 ∷ 49 ∷ 32 ∷ 48 ∷ 47 ∷ 48 ∷ 10 ∷ []
 unfolding answerText statusText decimal decimalBy
 ok-one = refl
 
 -- `no 4 2/2`
-pub no-four : answerText (Replies.No Absent 2 2) ≡ 110 ∷ 111 ∷ 32 ∷ 52 ∷ 32 ∷ 50 ∷ 47 ∷ 50 ∷ 10 ∷ []
+pub no-four : answerText (Said.denied 4 2 2) ≡ 110 ∷ 111 ∷ 32 ∷ 52 ∷ 32 ∷ 50 ∷ 47 ∷ 50 ∷ 10 ∷ []
 unfolding answerText statusText decimal decimalBy
 no-four = refl
 
 -- `ok 512 10/99`
-pub ok-many : answerText (Replies.Ok 512 10 99) ≡ 111 ∷ 107 ∷ 32 ∷ 53 ∷ 49 ∷ 50 ∷ 32 ∷ 49 ∷ 48 ∷ 47 ∷ 57 ∷ 57 ∷ 10 ∷ []
+pub ok-many : answerText (Said.ok 512 10 99) ≡ 111 ∷ 107 ∷ 32 ∷ 53 ∷ 49 ∷ 50 ∷ 32 ∷ 49 ∷ 48 ∷ 47 ∷ 57 ∷ 57 ∷ 10 ∷ []
 unfolding answerText statusText decimal decimalBy
 ok-many = refl
 
 -- `bad`
-pub bad-line : answerText Replies.Bad ≡ 98 ∷ 97 ∷ 100 ∷ 10 ∷ []
+pub bad-line : answerText Said.bad ≡ 98 ∷ 97 ∷ 100 ∷ 10 ∷ []
 unfolding answerText statusText decimal decimalBy
 bad-line = refl

@@ -7,12 +7,24 @@ use Rattle.lines.specs.Decimal.{decimal}
 use Rattle.lines.specs.declared.Reply.{Reply}
 use Rattle.lines.specs.declared.Reply.the-variants as Replies
 
+-- What is printed: a number or a refusal, with position and steps, or that the line is none of the three.
+pub data Said : Type 0 where
+  ok : (v p s : ℕ) → Said
+  denied : (k p s : ℕ) → Said
+  bad : Said
+
+-- What the code answers, in these words.
+abbrev pub replyIs : Reply → Said
+replyIs (Replies.Ok v p s) = Said.ok v p s
+replyIs (Replies.No r p s) = Said.denied (numberOf r) p s
+replyIs Replies.Bad = Said.bad
+
 -- Two letters, a number, position/steps, and the newline.
 unfoldable pub statusText : ℕ → ℕ → ℕ → ℕ → ℕ → List ℕ
 statusText a b n position steps = (a ∷ b ∷ []) ++ ((32 ∷ decimal n) ++ ((32 ∷ decimal position) ++ ((47 ∷ decimal steps) ++ (10 ∷ []))))
 
 -- The bytes of an answer, with its newline: `ok V P/S`, `no K P/S`, `bad`.
-unfoldable pub answerText : Reply → List ℕ
-answerText (Replies.Ok v p s) = statusText 111 107 v p s
-answerText (Replies.No k p s) = statusText 110 111 (numberOf k) p s
-answerText Replies.Bad = 98 ∷ 97 ∷ 100 ∷ 10 ∷ []
+unfoldable pub answerText : Said → List ℕ
+answerText (Said.ok v p s) = statusText 111 107 v p s
+answerText (Said.denied k p s) = statusText 110 111 k p s
+answerText Said.bad = 98 ∷ 97 ∷ 100 ∷ 10 ∷ []

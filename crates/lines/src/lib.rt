@@ -9,7 +9,7 @@ ghost use lib.ListN.{length};
 ghost use Rattle.lines.specs.Decimal.{decimal, digit?, leadingZero?, digits?, decimal?, spelled as spelledBy, upTo, numeral as numeralOf};
 ghost use Rattle.lines.specs.Lines.{starts? as startsWith, minus?, opening as openingOf, navigating as navigatingOf, forth as forthOf, back as backOf, going as goingOf, worded as wordedOf, parse as parseOf, commandIs};
 ghost use Rattle.laws.specs.Writes.{Wrote};
-ghost use Rattle.lines.specs.Reply.{statusText, answerText};
+ghost use Rattle.lines.specs.Reply.{replyIs, statusText, answerText};
 ghost use Rattle.lines.specs.Bounds.{Most};
 
 // What a line asks.
@@ -310,8 +310,8 @@ fn put_bad(out: &mut [u8], at: usize) -> usize
 
 // Writes an answer with its newline, and answers the place after it.
 pub fn put_answer(out: &mut [u8], at: usize, reply: Reply) -> usize
-    requires { ⌜ at + length (answerText reply) ≤ length (now out) ⌝ }
-    ensures { λ r. ⌜ Wrote (now (out .entry)) at (answerText reply) (now (out .exit)) r ⌝ }
+    requires { ⌜ at + length (answerText (replyIs reply)) ≤ length (now out) ⌝ }
+    ensures { λ r. ⌜ Wrote (now (out .entry)) at (answerText (replyIs reply)) (now (out .exit)) r ⌝ }
 {
     match reply {
         Reply::Ok(v, p, s) => put_status(out, at, b'o', b'k', v, p, s),

@@ -1,213 +1,118 @@
-// Reads standard input to its end, line by line, and prints the answer to each line: the record starts from Fresh with room for 512 rows.
-use base::Refusal;
-use lines::Reply;
-ghost use Prim.Native.Nat.{_+_, _≤_};
+// Prints the answers to the lines of standard input. What is printed for a text is what `texts` promises; here it is read and written.
+use texts::Finished;
+ghost use Prim.Native.Nat.{_≤_};
 ghost use lib.ListN.{length};
 
-// Where the reading is: whether more may come, how many bytes of the line are kept, and how many bytes of answers wait to be written.
-struct Place {
-    more: bool,
-    len: usize,
-    used: usize,
-}
-
-// Writes the first `used` bytes of out.
-fn flush(out: &[u8], used: usize) {
-    if used <= out.len() {
-        io::write_all(1, &out[0..used]);
+// Writes the first bytes of out; where that fails, says so on standard error.
+fn print(out: &[u8], used: usize) -> bool {
+    if out.len() < used {
+        return false;
     }
-}
-
-// Where an answer may start in out: at `used`, or at 0 once out is written because fewer than 66 bytes are left.
-fn room(out: &[u8], used: usize) -> usize {
-    if out.len() < 66 {
-        flush(out, used);
-        return 0;
+    if used == 0 {
+        return true;
     }
-    if out.len() - 66 < used {
-        flush(out, used);
-        return 0;
+    if io::write_all(1, &out[0..used]) {
+        return true;
     }
-    used
+    io::write_all(2, b"script: cannot write to standard output\n");
+    false
 }
 
-// Puts the answer to an accepted call into out from `at` on, and answers where it ends.
-fn put_ok(out: &mut [u8], at: usize, v: usize, p: usize, s: usize) -> usize
-    requires { ⌜ at + 66 ≤ length (now out) ⌝ }
-{
-    lines::put_answer(out, at, Reply::Ok(v, p, s))
+// How many bytes of the last line are kept, and whether all answers are written.
+struct Told {
+    kept: usize,
+    written: bool,
 }
 
-// Puts the answer to a refused call into out from `at` on, and answers where it ends.
-fn put_no(out: &mut [u8], at: usize, why: Refusal, p: usize, s: usize) -> usize
-    requires { ⌜ at + 66 ≤ length (now out) ⌝ }
-{
-    lines::put_answer(out, at, Reply::No(why, p, s))
-}
-
-// Puts an answer into out from `at` on, and answers where it ends.
-fn put_reply(out: &mut [u8], at: usize, reply: Reply) -> usize
-    requires { ⌜ at + 66 ≤ length (now out) ⌝ }
-{
-    match reply {
-        Reply::Ok(v, p, s) => put_ok(out, at, v, p, s),
-        Reply::No(why, p, s) => put_no(out, at, why, p, s),
-        Reply::Bad => lines::put_answer(out, at, Reply::Bad),
-    }
-}
-
-// Puts an answer into out from `at` on, where 66 bytes are left, and answers where it ends.
-fn put(out: &mut [u8], at: usize, reply: Reply) -> usize {
-    if out.len() < 66 {
-        return at;
-    }
-    if out.len() - 66 < at {
-        return at;
-    }
-    put_reply(out, at, reply)
-}
-
-// The answer to the line that is the first `len` bytes kept.
-fn answer(line: &[u8], len: usize, words: &mut [u32], changes: &mut [u32]) -> Reply {
-    if len <= line.len() {
-        turns::turn(words, changes, &line[0..len])
-    } else {
-        Reply::Bad
-    }
-}
-
-// Answers a line into out, and says where the answer ends.
-fn emit(
-    line: &[u8],
-    len: usize,
-    words: &mut [u32],
-    changes: &mut [u32],
-    out: &mut [u8],
-    used: usize,
-) -> usize {
-    let reply = answer(line, len, words, changes);
-    let at = room(out, used);
-    put(out, at, reply)
-}
-
-// Keeps a byte of a line, if there is room: a line that is longer than 64 bytes is bad whatever its 66th byte is.
-fn keep(line: &mut [u8], len: usize, b: u8) -> usize {
-    if len < line.len() {
-        line[len] = b;
-        len + 1
-    } else {
-        len
-    }
-}
-
-// One byte: a newline ends the line.
-fn step(
-    b: u8,
+// Answers the lines of a part of the input, and writes the answers as often as out is full.
+fn answer(
+    text: &[u8],
     line: &mut [u8],
-    len: usize,
+    kept: usize,
     words: &mut [u32],
     changes: &mut [u32],
     out: &mut [u8],
-    used: usize,
-) -> Place {
-    if b == 10 {
-        let end = emit(line, len, words, changes, out, used);
-        return Place {
-            more: true,
-            len: 0,
-            used: end,
-        };
+) -> Told
+    requires { ⌜ (65 ≤ length (now line)) × (66 ≤ length (now out)) ⌝ }
+{
+    let mut at = 0;
+    let mut len = kept;
+    let mut written = true;
+    while written & (at < text.len()) {
+        let f = texts::feed(&text[at..], line, len, words, changes, out);
+        written = print(out, f.used);
+        at += f.taken;
+        len = f.kept;
     }
-    let n = keep(line, len, b);
-    Place {
-        more: true,
-        len: n,
-        used: used,
-    }
+    Told { kept: len, written }
 }
 
-// The bytes of s, one after the other.
-fn feed(
-    s: &[u8],
-    line: &mut [u8],
-    start: usize,
-    words: &mut [u32],
-    changes: &mut [u32],
-    out: &mut [u8],
-    first: usize,
-) -> Place {
-    let mut len = start;
-    let mut used = first;
-    let mut i: usize = 0;
-    while i < s.len() {
-        let p = step(s[i], line, len, words, changes, out, used);
-        len = p.len;
-        used = p.used;
-        i += 1;
-    }
-    Place {
-        more: true,
-        len: len,
-        used: used,
-    }
+// What a read came to: with so many bytes of the last line kept there is more, or the input has ended; or it failed.
+enum Input {
+    More(usize),
+    End(usize),
+    Failed,
 }
 
-// One read, and its bytes.
+// Reads once, and answers what was read; where the read fails, says so on standard error.
 fn take(
     buf: &mut [u8],
     line: &mut [u8],
-    len: usize,
+    kept: usize,
     words: &mut [u32],
     changes: &mut [u32],
     out: &mut [u8],
-    used: usize,
-) -> Place {
+) -> Input
+    requires { ⌜ (65 ≤ length (now line)) × (66 ≤ length (now out)) ⌝ }
+{
     let got = libc::read(0, buf);
-    if got <= 0 {
-        return Place {
-            more: false,
-            len: len,
-            used: used,
-        };
+    if got < 0 {
+        io::write_all(2, b"script: cannot read standard input\n");
+        return Input::Failed;
     }
     let n = io::count(got, buf);
-    feed(&buf[..n], line, len, words, changes, out, used)
-}
-
-// The last line, where it lacks its newline, and what waits to be written.
-fn finish(
-    line: &[u8],
-    len: usize,
-    words: &mut [u32],
-    changes: &mut [u32],
-    out: &mut [u8],
-    used: usize,
-) {
-    if len == 0 {
-        flush(out, used);
-        return;
+    if n == 0 {
+        return Input::End(kept);
     }
-    let end = emit(line, len, words, changes, out, used);
-    flush(out, end);
+    let told = answer(&buf[..n], line, kept, words, changes, out);
+    if !told.written {
+        return Input::Failed;
+    }
+    Input::More(told.kept)
 }
 
-// Reads until the input ends. A proved loop has to end, so the reads are counted down from a number that no run uses up.
-fn run(buf: &mut [u8], line: &mut [u8], words: &mut [u32], changes: &mut [u32], out: &mut [u8]) {
+// Answers the last line, where it lacks its newline.
+fn finish(line: &[u8], kept: usize, words: &mut [u32], changes: &mut [u32], out: &mut [u8]) {
+    let Finished::Printed(used) = texts::finish(line, kept, words, changes, out) else {
+        return;
+    };
+    print(out, used);
+}
+
+// Reads until the input ends or fails. A proved loop has to end, so the reads are counted down from a number that no run uses up.
+fn run(buf: &mut [u8], line: &mut [u8], words: &mut [u32], changes: &mut [u32], out: &mut [u8])
+    requires { ⌜ (65 ≤ length (now line)) × (66 ≤ length (now out)) ⌝ }
+{
     let mut left = u64::MAX;
-    let mut len: usize = 0;
-    let mut used: usize = 0;
-    let mut more = true;
-    while left > 0 && more {
-        let p = take(buf, line, len, words, changes, out, used);
-        more = p.more;
-        len = p.len;
-        used = p.used;
+    let mut kept: usize = 0;
+    while left > 0 {
+        match take(buf, line, kept, words, changes, out) {
+            Input::More(n) => {
+                kept = n;
+            }
+            Input::End(n) => {
+                finish(line, n, words, changes, out);
+                return;
+            }
+            Input::Failed => {
+                return;
+            }
+        }
         left -= 1;
     }
-    finish(line, len, words, changes, out, used);
 }
 
-// Starts from Fresh.
+// Starts from Fresh with room for 512 rows.
 fn main() {
     let mut buf = io::large_buffer();
     let mut out = io::large_buffer();

@@ -8,7 +8,8 @@ use Rattle.asks.specs.Answers.{standingIs}
 use Rattle.asks.specs.declared.Standing.{Standing}
 use Rattle.lines.specs.Lines.{Command, parse, commandIs}
 use Rattle.lines.specs.declared.Command.{Command as Read}
-use Rattle.turns.specs.Turns.{Said, Turned, told, standing, telling, moved, Leaves, gone, obeyed, turned}
+use Rattle.lines.specs.Reply.{Said}
+use Rattle.turns.specs.Turns.{Turned, told, standing, telling, moved, Leaves, gone, obeyed, turned}
 
 -- What is said by Position's answer, whichever that is.
 pub said-at : (say : Answer → Said) (words : List ℕ) (st x : Standing) → outcome (Call.Position words) ≡ record { answer = standingIs st; lent = [] } → st ≡ x → say (standingIs x) ≡ say (standing words)

@@ -5,23 +5,9 @@ use Prim.Native.Nat.{ℕ}
 use mathlib.Core.List.{List, []}
 use mathlib.Core.Path.{_≡_}
 use lib.ListN.{getD}
-use Rattle.base.specs.Numbers.{numberOf}
 use Rattle.rules.specs.Calls.{Call, Answer, Outcome, outcome}
 use Rattle.lines.specs.Lines.{Command, parse}
-use Rattle.lines.specs.declared.Reply.{Reply}
-use Rattle.lines.specs.declared.Reply.the-variants as Replies
-
--- What is printed: a number or a refusal, with position and steps, or that the line is none of the three.
-pub data Said : Type 0 where
-  ok : (v p s : ℕ) → Said
-  denied : (k p s : ℕ) → Said
-  bad : Said
-
--- What the code answers, in these words.
-abbrev pub replyIs : Reply → Said
-replyIs (Replies.Ok v p s) = Said.ok v p s
-replyIs (Replies.No k p s) = Said.denied (numberOf k) p s
-replyIs Replies.Bad = Said.bad
+use Rattle.lines.specs.Reply.{Said}
 
 -- A number, where the window stands; where Position itself refuses, its refusal at 0/0.
 abbrev pub okAt : Answer → ℕ → Said

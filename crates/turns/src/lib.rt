@@ -10,7 +10,8 @@ use traverses::Traversed;
 ghost use mathlib.Core.Path.{_≡_};
 ghost use Rattle.base.specs.Numbers.{numberOf};
 ghost use Rattle.rules.specs.Calls.{Call, outcome};
-ghost use Rattle.turns.specs.Turns.{replyIs, okAt, deniedAt, standing, Leaves, gone, turned};
+ghost use Rattle.lines.specs.Reply.{replyIs};
+ghost use Rattle.turns.specs.Turns.{okAt, deniedAt, standing, Leaves, gone, turned};
 
 // The answer to an accepted call: its number, and where the window stands.
 fn accept(words: &[u32], v: usize) -> Reply

@@ -6,11 +6,11 @@ use Rattle.script.proofs.run.Statement.{statement}
 use Rattle.script.proofs.run.Tie as tie
 
 abbrev Inv-loop : tie.InvT-loop
-Inv-loop buf₀ line₀ words₀ changes₀ out₀ left₀ len₀ used₀ more₀ buf line words changes out left len used more =
+Inv-loop buf₀ line₀ words₀ changes₀ out₀ left₀ kept₀ buf line words changes out left kept =
     (length buf ≡ length buf₀) × (length line ≡ length line₀) × (length words ≡ length words₀) × (length changes ≡ length changes₀) × (length out ≡ length out₀)
 
 abbrev μ-loop : tie.MeasureT-loop
-μ-loop buf₀ line₀ words₀ changes₀ out₀ left₀ len₀ used₀ more₀ buf line words changes out left len used more = left
+μ-loop buf₀ line₀ words₀ changes₀ out₀ left₀ kept₀ buf line words changes out left kept = left
 
 pub run-spec : {M : Type 1} → statement M
 run-spec =
@@ -19,8 +19,23 @@ run-spec =
     (λ c κs. search needs)
     (λ c. search needs)
     (λ c. search needs)
-    (λ c. search needs)
     (λ c κs. search needs)
+    (λ c. search needs)
+    (λ c. search needs)
+    (λ c. search needs)
+    (λ c. search needs)
+    (λ c. search needs)
+    (λ c. search needs)
+    (λ c. search needs)
+    (λ c. search needs)
+    (λ c. search needs)
+    (λ c. search needs)
+    (λ c. search needs)
+    (λ c. search needs)
+    (λ c. search needs)
+    (λ c. search needs)
+    (λ c. search needs)
+    (λ c. search needs)
     (λ c. search needs)
     (λ c. search needs)
     (λ c. search needs)

@@ -1,0 +1,73 @@
+-- Document 01's example of a script, whole, and small texts, by computation. Assumes nothing.
+use Prim.Native.Nat.{ℕ}
+use mathlib.Core.List.{List, [], _∷_, _++_, map, flatMap}
+use mathlib.Core.Path.{_≡_, refl}
+use lib.ListN.{replicate}
+use Rattle.rules.specs.Below.{someBelow, allBelow, count, earliest, latest, tab, gather}
+use Rattle.rules.specs.Rows.{inRecord, place, isFrame, withFlags, climb}
+use Rattle.rules.specs.Steps.{step, reach, position, steps, visible}
+use Rattle.rules.specs.Moves.{opened, gone, without, hide, navigated, show, forward, backTarget, rowBefore, back, walked, shownDoc, changeRow, changes}
+use Rattle.rules.specs.Words.{put, tableOf, wordsOf, written}
+use Rattle.rules.specs.Sound.{soundTable?, sound?}
+use Rattle.rules.specs.Calls.{refusals, accepted, ladder, outcome}
+use Rattle.lines.specs.Decimal.{decimalBy, decimal, decimal?, spelled, upTo, numeral}
+use Rattle.lines.specs.Lines.{starts?, going, worded, parse}
+use Rattle.lines.specs.Reply.{statusText, answerText}
+use Rattle.turns.specs.Turns.{turned}
+use Rattle.texts.specs.Texts.{linesFrom, answers, printed}
+
+-- A text and what is printed for it.
+pub record Script : Type 0 where
+  pub text : List ℕ
+  pub expected : List ℕ
+
+abbrev newline : List ℕ
+newline = 10 ∷ []
+
+-- `open 0`, `nav D`, `go D`, `go -D`, each with its newline; D is a digit.
+abbrev openLine : List ℕ
+openLine = 111 ∷ 112 ∷ 101 ∷ 110 ∷ 32 ∷ 48 ∷ 10 ∷ []
+
+abbrev navLine : ℕ → List ℕ
+navLine d = 110 ∷ 97 ∷ 118 ∷ 32 ∷ d ∷ 10 ∷ []
+
+abbrev goLine : ℕ → List ℕ
+goLine d = 103 ∷ 111 ∷ 32 ∷ d ∷ 10 ∷ []
+
+abbrev backLine : ℕ → List ℕ
+backLine d = 103 ∷ 111 ∷ 32 ∷ 45 ∷ d ∷ 10 ∷ []
+
+-- `ok V P/S`, `no K P/S`, `bad`, each with its newline; V, K, P and S are digits.
+abbrev okLine : ℕ → ℕ → ℕ → List ℕ
+okLine v p s = 111 ∷ 107 ∷ 32 ∷ v ∷ 32 ∷ p ∷ 47 ∷ s ∷ 10 ∷ []
+
+abbrev noLine : ℕ → ℕ → ℕ → List ℕ
+noLine k p s = 110 ∷ 111 ∷ 32 ∷ k ∷ 32 ∷ p ∷ 47 ∷ s ∷ 10 ∷ []
+
+abbrev badLine : List ℕ
+badLine = 98 ∷ 97 ∷ 100 ∷ 10 ∷ []
+
+abbrev pub scripts : List Script
+scripts =
+    -- "Input: `open 0`, `open 0`, `nav 1`, `nav 2`, `go -2`, `go 1`, `nav 3`, `nav 4`, `go -3`. Output, whole: [..]"
+    record {
+      text = openLine ++ openLine ++ navLine 49 ++ navLine 50 ++ backLine 50 ++ goLine 49 ++ navLine 51 ++ navLine 52 ++ backLine 51;
+      expected = okLine 49 48 48 ++ okLine 50 48 48 ++ okLine 51 49 49 ++ okLine 52 50 50 ++ okLine 50 48 50 ++ okLine 49 49 50 ++ okLine 53 50 50 ++ noLine 52 50 50 ++ noLine 54 50 50;
+    }
+    -- An empty text has no line; a newline ends an empty one, which is bad.
+    ∷ record { text = []; expected = [] }
+    ∷ record { text = newline ++ newline; expected = badLine ++ badLine }
+    -- "the last may lack it": `go 0` without its newline is answered, after the line before it.
+    ∷ record { text = openLine ++ 103 ∷ 111 ∷ 32 ∷ 48 ∷ []; expected = okLine 49 48 48 ++ okLine 48 48 48 }
+    -- "at most 64 bytes without it": `open 0` with bytes behind it is bad, be they 59 zeros, which is one byte too many, or a zero byte.
+    ∷ record { text = 111 ∷ 112 ∷ 101 ∷ 110 ∷ 32 ∷ (replicate 60 48 ++ newline); expected = badLine }
+    ∷ record { text = 111 ∷ 112 ∷ 101 ∷ 110 ∷ 32 ∷ 48 ∷ 0 ∷ 10 ∷ []; expected = badLine }
+    ∷ []
+
+-- Each text prints what is expected of it, with room for eight rows.
+pub scripts-hold : map (λ s. printed 8 (s .text)) scripts ≡ map (λ s. s .expected) scripts
+unfolding someBelow allBelow count earliest latest tab gather inRecord place isFrame withFlags climb step reach position steps visible
+    opened gone without hide navigated show forward backTarget rowBefore back walked shownDoc changeRow changes
+    put tableOf wordsOf written soundTable? sound? refusals accepted ladder outcome flatMap
+    decimalBy decimal decimal? spelled upTo numeral starts? going worded parse statusText answerText turned linesFrom answers printed
+scripts-hold = refl
