@@ -1,5 +1,5 @@
 pub mod Judges
 pub mod Stays
-pub mod Packed
+pub mod Gaps
 pub mod Settled
 pub mod Turns

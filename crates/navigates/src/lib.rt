@@ -10,21 +10,21 @@ use sound::Check;
 use sound::Stand;
 use sound::Survey;
 ghost use mathlib.Core.Path.{_≡_};
-ghost use mathlib.Core.Bool.{So};
-ghost use mathlib.Core.List.{[], _∷_, flatMap};
-ghost use Prim.Native.Nat.{_+_, _-_, _*_, _<_, _≤_};
-ghost use lib.ListN.{length, replicate};
+ghost use mathlib.Core.List.{[], _∷_};
+ghost use Prim.Native.Nat.{_<_, _≤_};
+ghost use lib.ListN.{length};
 ghost use Rattle.rules.specs.Below.{someBelow, earliest};
-ghost use Rattle.rules.specs.Rows.{none, frameAt, docAt, isDoc};
+ghost use Rattle.rules.specs.Rows.{none, frameAt};
 ghost use Rattle.rules.specs.Steps.{same, upcoming};
 ghost use Rattle.rules.specs.Moves.{cleared, navigated};
-ghost use Rattle.rules.specs.Words.{capacity, put, tableOf, rowsOf, rowWords, written};
+ghost use Rattle.rules.specs.Words.{capacity, tableOf, rowsOf, written};
 ghost use Rattle.rules.specs.Calls.{Call, full, refusals, NoneGiven, outcome};
 ghost use Rattle.reads.specs.Within.{Within};
 ghost use Rattle.sound.specs.Check.{Examined, Settles, Judged};
 ghost use Rattle.sound.specs.Survey.{Located};
+ghost use Rattle.packs.specs.Packing.{Over};
 ghost use Rattle.navigates.specs.Answers.{navigatedIs, roomRungs};
-ghost use Rattle.navigates.specs.Packing.{joins, removalEnd, Ends, Moved, settled};
+ghost use Rattle.navigates.specs.Packing.{joins, removalEnd, Ends, settled};
 
 // Whether no row is left after the removal: only where nothing goes and all rows are in use.
 fn is_full(words: &[u32], s: Stand) -> bool
@@ -74,7 +74,7 @@ fn frame_before(words: &[u32], at: RowPlace, k: usize) -> bool
     }
 }
 
-// Whether a row stays, where the first k rows are those kept so far: it is the first of its frame among them, and its parent is one of them.
+// Whether a row stays, where the first k rows are those kept so far: it is the first of its frame among them, and it has no parent or that is one of them.
 fn row_joins(words: &[u32], at: RowPlace, k: usize) -> bool
     requires { ⌜ Within (now words) (at .0) × (k ≤ at .0) ⌝ }
     ensures { λ r. ⌜ r ≡ joins (rowsOf (now (words .entry))) k (at .0) ⌝ }
@@ -82,23 +82,7 @@ fn row_joins(words: &[u32], at: RowPlace, k: usize) -> bool
     if frame_before(words, at, k) {
         return false;
     }
-    match reads::find_below(words, RowPlace(k), reads::parent(words, at)) {
-        Found::At(_) => true,
-        Found::Nothing => false,
-    }
-}
-
-// Moves a row down behind the k rows kept so far if it stays. How many are kept then.
-fn keep_row(words: &mut [u32], at: RowPlace, k: usize) -> usize
-    requires { ⌜ Within (now words) (at .0) × (k ≤ at .0) ⌝ }
-    ensures { λ r. ⌜ Moved (now (words .entry)) (at .0) k r (now (words .exit)) ⌝ }
-{
-    if !row_joins(words, at, k) {
-        return k;
-    }
-    let r = rows::read_row(words, at);
-    writes::put_row(words, RowPlace(k), r.document, r.frame, r.parent, r.shown);
-    k + 1
+    packs::parent_kept(words, at, k)
 }
 
 // A place from which on all rows are upcoming steps: that of the earliest, where no frame begins after it, else the rows' end.
@@ -115,40 +99,20 @@ fn removal_end(words: &[u32], s: Stand) -> RowPlace
 // Removes what goes and closes the gaps: the rows before the first upcoming step stay where they are, and none stays from `end` on. How many rows stay.
 fn close_gaps(words: &mut [u32], start: RowPlace, end: RowPlace) -> usize
     requires { ⌜ Examined (now words) × (tableOf (now words) .nextDoc ≤ none) × (start .0 ≡ earliest (upcoming (rowsOf (now words))) (length (rowsOf (now words)))) × Ends (rowsOf (now words)) (end .0) ⌝ }
-    ensures { λ r. ⌜ (r ≡ length (cleared (rowsOf (now (words .entry))))) × (now (words .exit) ≡ put (now (words .entry)) 3 (flatMap rowWords (cleared (rowsOf (now (words .entry)))))) ⌝ }
+    ensures { λ r. ⌜ Over (cleared (rowsOf (now (words .entry)))) (now (words .entry)) r (now (words .exit)) ⌝ }
 {
     let last = end.0;
     let mut k = start.0;
     let mut i = start.0;
     while i < last {
-        k = keep_row(words, RowPlace(i), k);
+        let stays = row_joins(words, RowPlace(i), k);
+        k = packs::keep_row(words, RowPlace(i), k, stays);
         i += 1;
     }
     k
 }
 
-// The row that holds a document, where one of the first k rows does.
-fn place_before(words: &[u32], k: usize, d: DocNo) -> RowPlace
-    requires { ⌜ (length (rowsOf (now words)) ≤ capacity (now words)) × (k ≤ length (rowsOf (now words))) × So (someBelow k (isDoc (rowsOf (now words)) (d .0))) ⌝ }
-    ensures { λ r. ⌜ (r .0 < k) × (docAt (rowsOf (now (words .entry))) (r .0) ≡ d .0) ⌝ }
-{
-    match reads::find_below(words, RowPlace(k), d) {
-        Found::At(at) => at,
-        Found::Nothing => RowPlace(0),
-    }
-}
-
-// Makes the words of the rows past the first k zero, up to n rows; none where n is no more.
-fn clear_rows(words: &mut [u32], k: usize, n: usize)
-    requires { ⌜ (3 + 4 * n ≤ length (now words)) × (n ≤ 512) × (k ≤ 512) ⌝ }
-    ensures { λ _. ⌜ now (words .exit) ≡ put (now (words .entry)) (3 + 4 * k) (replicate (4 * (n - k)) 0) ⌝ }
-{
-    if k < n {
-        writes::clear(words, 3 + 4 * k, 3 + 4 * n);
-    }
-}
-
-// Hides the row left, appends to the first k rows one of its frame and parent, clears the words of the other rows up to n, and writes the numbers.
+// Hides the row left, appends to the first k rows one of its frame and parent, and ends the record there, of which n rows were in use.
 fn settle(words: &mut [u32], at: RowPlace, k: usize, n: usize, d: DocNo, next: FrameNo)
     requires { ⌜ Within (now words) (at .0) × (k < capacity (now words)) × (n ≤ capacity (now words)) × (d .0 < none) ⌝ }
     ensures { λ _. ⌜ now (words .exit) ≡ settled (now (words .entry)) (at .0) k n (d .0) (next .0) ⌝ }
@@ -156,8 +120,7 @@ fn settle(words: &mut [u32], at: RowPlace, k: usize, n: usize, d: DocNo, next: F
     let r = rows::read_row(words, at);
     writes::put_flag(words, at, 0);
     writes::put_row(words, RowPlace(k), d, r.frame, r.parent, 1);
-    clear_rows(words, k + 1, n);
-    writes::put_head(words, k + 1, DocNo(d.0 + 1), next);
+    packs::end_rows(words, k + 1, n, DocNo(d.0 + 1), next);
 }
 
 // Navigates where no refusal is given, in a sound record that stands so. The new document.
@@ -170,7 +133,7 @@ fn go_from(words: &mut [u32], s: Stand, from: DocNo) -> DocNo
     let next = rows::next_frame_number(words);
     let end = removal_end(words, s);
     let k = close_gaps(words, s.upcoming, end);
-    let at = place_before(words, k, from);
+    let at = packs::place_before(words, k, from);
     settle(words, at, k, n, d, next);
     d
 }

@@ -9,7 +9,7 @@ use Rattle.rules.specs.Words.{tableOf}
 use Rattle.laws.proofs.Words.{next-doc-in}
 use Rattle.laws.proofs.Accepted.{navigate-relies}
 use Rattle.sound.proofs.Checks.{examined-sound}
-use Rattle.navigates.proofs.Packed.{end-ends}
+use Rattle.navigates.proofs.Gaps.{end-ends}
 use Rattle.navigates.proofs.Settled.{place-asks, settle-asks, settled-is}
 use Rattle.navigates.proofs.go_from.Statement.{statement}
 use Rattle.navigates.proofs.go_from.Tie as tie
@@ -30,7 +30,7 @@ go-from-spec =
     let c13 = c3 .before .before .before .before .before .before .before .before .before .before in
     let c14 = c13 .before in
     let w : tableOf (now (c14 .args .words)) .nextDoc ≤ none = omega (arith, c13 .slice-known .given 1, next-doc-in (now (c14 .args .words))) in
-    place-asks (now (c14 .args .words)) _ (navigate-relies _ _ (c14 .pre .1)) w _ (c3 .close-gaps .ensures .1) _ (c3 .close-gaps .ensures .0))
+    place-asks (now (c14 .args .words)) _ (navigate-relies _ _ (c14 .pre .1)) w _ _ (c3 .close-gaps .ensures))
     (λ c κs. let c1 = c .before in
     let c5 = c1 .before .before .before .before in
     let c11 = c5 .before .before .before .before .before .before in
@@ -38,7 +38,7 @@ go-from-spec =
     let c15 = c13 .before .before in
     let c16 = c15 .before in
     let w : tableOf (now (c16 .args .words)) .nextDoc ≤ none = omega (arith, c15 .slice-known .given 1, next-doc-in (now (c16 .args .words))) in
-    settle-asks (now (c16 .args .words)) _ (navigate-relies _ _ (c16 .pre .1)) w _ (c5 .close-gaps .ensures .1) _ _ _ _ (c5 .close-gaps .ensures .0) (c13 .row-count .ensures) (c11 .next-document .ensures) (c1 .place-before .ensures .0))
+    settle-asks (now (c16 .args .words)) _ (navigate-relies _ _ (c16 .pre .1)) w _ _ (c5 .close-gaps .ensures) _ _ _ (c13 .row-count .ensures) (c11 .next-document .ensures) (c1 .place-before .ensures .0))
     (λ c. search needs)
     (λ c. let c2 = c .before .before in
     let c4 = c2 .before .before in
@@ -49,4 +49,4 @@ go-from-spec =
     let c18 = c16 .before .before in
     let c19 = c18 .before in
     let w : tableOf (now (c19 .args .words)) .nextDoc ≤ none = omega (arith, c18 .slice-known .given 1, next-doc-in (now (c19 .args .words))) in
-    (c14 .next-document .ensures, settled-is (now (c19 .args .words)) _ (navigate-relies _ _ (c19 .pre .1)) w _ (c8 .close-gaps .ensures .1) _ _ _ _ _ _ (c8 .close-gaps .ensures .0) (c16 .row-count .ensures) (c14 .next-document .ensures) (c12 .next-frame-number .ensures) (c4 .place-before .ensures .0) (c4 .place-before .ensures .1) (c2 .settle .ensures))))
+    (c14 .next-document .ensures, settled-is (now (c19 .args .words)) _ (navigate-relies _ _ (c19 .pre .1)) w _ _ (c8 .close-gaps .ensures) _ _ _ _ _ (c16 .row-count .ensures) (c14 .next-document .ensures) (c12 .next-frame-number .ensures) (c4 .place-before .ensures .0) (c4 .place-before .ensures .1) (c2 .settle .ensures))))

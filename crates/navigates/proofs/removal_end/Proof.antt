@@ -7,7 +7,7 @@ use Rattle.rules.specs.Words.{rowsOf}
 use Rattle.laws.proofs.Central.{position-steps}
 use Rattle.laws.proofs.Standing.{steps-most}
 use Rattle.sound.proofs.Checks.{examined-fits}
-use Rattle.navigates.proofs.Packed.{ends-early, ends-last}
+use Rattle.navigates.proofs.Gaps.{ends-early, ends-last}
 use Rattle.navigates.proofs.removal_end.Statement.{statement}
 use Rattle.navigates.proofs.removal_end.Tie as tie
 

@@ -13,15 +13,12 @@ settle-spec =
     (λ c κs. search needs)
     (λ c κs. search needs)
     (λ c. search needs)
-    (λ c κs. search needs)
-    (λ c. search needs)
     (λ c. search needs)
     (λ c κs. search needs)
     (λ c. search needs)
     (λ c. let c2 = c .before .before in
     let c7 = c2 .before .before .before .before .before in
     let c11 = c7 .before .before .before .before in
-    let c15 = c11 .before .before .before .before in
-    let c17 = c15 .before .before in
-    let c20 = c17 .before .before .before in
-    settles (now (c20 .args .words)) _ _ _ _ _ _ _ _ _ _ (row-within (now (c20 .args .words)) _ _ (c20 .pre .0) (c17 .read-row .ensures)) (c15 .put-flag .ensures) (c11 .put-row .ensures) (c7 .clear-rows .ensures) (c2 .put-head .ensures)))
+    let c13 = c11 .before .before in
+    let c16 = c13 .before .before .before in
+    settles (now (c16 .args .words)) _ _ _ _ _ _ _ _ _ (row-within (now (c16 .args .words)) _ _ (c16 .pre .0) (c13 .read-row .ensures)) (c11 .put-flag .ensures) (c7 .put-row .ensures) (c2 .end-rows .ensures)))

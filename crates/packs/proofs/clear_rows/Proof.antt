@@ -1,9 +1,9 @@
--- `navigates::clear_rows` meets its contract. Assumes nothing.
+-- `packs::clear_rows` meets its contract. Assumes nothing.
 use native.Mathlib.Omega.{arith}
 use borrow.Author.Needs.{needs}
-use Rattle.navigates.proofs.Turns.{zeros-to, zeros-none}
-use Rattle.navigates.proofs.clear_rows.Statement.{statement}
-use Rattle.navigates.proofs.clear_rows.Tie as tie
+use Rattle.packs.proofs.Turns.{zeros-to, zeros-none}
+use Rattle.packs.proofs.clear_rows.Statement.{statement}
+use Rattle.packs.proofs.clear_rows.Tie as tie
 
 pub clear-rows-spec : {M : Type 1} → statement M
 clear-rows-spec =

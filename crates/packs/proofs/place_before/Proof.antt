@@ -1,10 +1,10 @@
--- `navigates::place_before` meets its contract. Assumes nothing.
+-- `packs::place_before` meets its contract. Assumes nothing.
 use borrow.Author.Needs.{needs}
 use denote.Ref.{now}
 use Rattle.rules.specs.Words.{rowsOf}
-use Rattle.navigates.proofs.Turns.{found-row, found-one}
-use Rattle.navigates.proofs.place_before.Statement.{statement}
-use Rattle.navigates.proofs.place_before.Tie as tie
+use Rattle.packs.proofs.Turns.{found-row, found-one}
+use Rattle.packs.proofs.place_before.Statement.{statement}
+use Rattle.packs.proofs.place_before.Tie as tie
 
 pub place-before-spec : {M : Type 1} → statement M
 place-before-spec =
@@ -18,4 +18,4 @@ place-before-spec =
     found-row (rowsOf (now (c5 .args .words))) _ _ _ (c3 .find-below .ensures) _ (c1 .at .given .1))
     (λ c. let c2 = c .before .before in
     let c4 = c2 .before .before in
-    found-one (rowsOf (now (c4 .args .words))) _ _ _ (c2 .find-below .ensures) (c .enum-told .given .1) (c4 .pre .2)))
+    found-one (rowsOf (now (c4 .args .words))) _ _ _ (c2 .find-below .ensures) (c .enum-told .given .1) (c4 .pre .1)))

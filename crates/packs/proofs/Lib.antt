@@ -1,0 +1,6 @@
+pub mod Over
+pub mod Packed
+pub mod Stays
+pub mod Gaps
+pub mod Ended
+pub mod Turns
