@@ -20,7 +20,7 @@ use Rattle.demands.specs.Model.{History, navigating, Same, Traverses}
 use Rattle.demands.specs.Follows.{ofRows, historyOf, FollowsModel, Demand2}
 use Rattle.demands.proofs.Accepted.{accepted-none, accepted-after, go-relies}
 use Rattle.demands.proofs.Lasting.{lasting, lasting-rows, table-after}
-use Rattle.demands.proofs.Demand1.{demand1, outside-is}
+use Rattle.demands.proofs.Demand1.{first-holds, demand1, outside-is}
 use Rattle.demands.proofs.Saving.{undo-each-other}
 use Rattle.demands.proofs.Traverses.{traversed-inside, walk-model, theorem-1}
 use Rattle.demands.proofs.Shape.{is-history, well-formed, one-root}
@@ -91,10 +91,10 @@ module _ (words : List ℕ) (wide : Words32 words) (s : Sound words) where
         );
         traverse = traversed-model;
         theorem-1 = theorem-1 (t .rows) rows;
-        absent = λ d e x. says-absent words d (demand1 _ .exactly 4 .0 e .0) (x .0) (x .1, x .2);
-        hidden = λ d e x. clash (visible-active (t .rows) (rows .tree) d .1 x) (says-hidden words d (demand1 _ .exactly 5 .0 e .0) .1);
+        absent = λ d e x. says-absent words d (first-holds 4 _ (demand1 _ .exactly 4 .0 e)) (x .0) (x .1, x .2);
+        hidden = λ d e x. clash (visible-active (t .rows) (rows .tree) d .1 x) (says-hidden words d (first-holds 5 _ (demand1 _ .exactly 5 .0 e)) .1);
         beyond = λ δ room e K x.
-            clash (outside-is (steps (t .rows)) (pos (position (t .rows)) +ℤ δ) .1 (says-beyond words δ room (demand1 _ .exactly 6 .0 e .0))) (traversed-inside (t .rows) rows δ K x);
+            clash (outside-is (steps (t .rows)) (pos (position (t .rows)) +ℤ δ) .1 (says-beyond words δ room (first-holds 6 _ (demand1 _ .exactly 6 .0 e)))) (traversed-inside (t .rows) rows δ K x);
       }
 
 -- "Navigating and traversing give the record that the fully patched model of source document 001 gives [..] Saving and loading undo each other"

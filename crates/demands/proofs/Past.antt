@@ -9,13 +9,14 @@ use lib.Seq.{getD-take, take-at, drop-at}
 use borrow.Author.Tests.{ltb-true, ltb-false, leb-false, lt-ltb}
 use Rattle.rules.specs.Below.{tab}
 use Rattle.rules.specs.Rows.{Table}
-use Rattle.rules.specs.Moves.{freshTable, opened, cleared, navigated, traversed}
+use Rattle.rules.specs.Moves.{freshTable, opened, cleared, navigated, traversed, dropped}
 use Rattle.rules.specs.Words.{capacity, rowIn, tableOf, rowsOf, wordsOf, written}
 use Rattle.rules.specs.Sound.{SoundTable, Sound, sound?}
 use Rattle.rules.specs.Saved.{loaded}
 use Rattle.rules.specs.Calls.{Call, Answer, Outcome, Rung, short, unsound, _when_, refusals, _leaving_, accepted, ladder, outcome, NoneGiven}
-use Rattle.laws.proofs.Tests.{test, same-tests, tab-same}
+use Rattle.laws.proofs.Tests.{test, same-tests, count-most, tab-same}
 use Rattle.laws.proofs.Reflect.{sound-is}
+use Rattle.laws.proofs.Drop.{staysBut, dropped-length}
 use Rattle.laws.proofs.Navigate.{opened-length, navigated-length}
 use Rattle.laws.proofs.Travel.{walked-length}
 use Rattle.laws.proofs.Words.{rows-length, length-wordsOf, length-written, capacity-written, written-is}
@@ -157,6 +158,15 @@ past-spared (Call.Traverse words δ room) =
       λ n.
           let r = s .table .s1 .fits in
           rw (← t) (wrote-table words other h (traversed (tableOf words) δ) _ _ (long words s) (omega (arith, walked-length δ (rowsOf words)))),
+    )))
+past-spared (Call.Drop words frame) =
+    writes _ words (λ other h.
+    guarded (Wrote words) (wrote-nothing words other h []) words other h (λ s t c. (
+      cc,
+      λ n.
+          let r = s .table .s1 .fits in
+          let few = count-most (staysBut frame (rowsOf words)) (length (rowsOf words)) in
+          rw (← ap (λ (u : Table). length (u .rows)) t, ← t) (wrote-table words other h (dropped (tableOf words) frame) _ [] (long words s) (omega (arith, dropped-length (tableOf words) frame))),
     )))
 past-spared (Call.Position words) = λ other h. guarded _≡_ (λ k. refl) words other h (λ s t c. (cc, λ n. cc))
 past-spared (Call.Visible words d) = λ other h. guarded _≡_ (λ k. refl) words other h (λ s t c. (cc, λ n. cc))

@@ -21,12 +21,12 @@ use Rattle.laws.proofs.Trips.{loaded-saved}
 use Rattle.laws.proofs.Loads.{in-room, from-save-is, from-save-in}
 use Rattle.demands.specs.Record.{Words32, Accepted}
 use Rattle.demands.specs.Standing.{left}
-use Rattle.demands.specs.Refuses.{NotSaved, lines, HoldsIn}
+use Rattle.demands.specs.Refuses.{NotSaved, lines, First, HoldsIn}
 use Rattle.demands.specs.Saving.{Writes, UndoEachOther}
 use Rattle.demands.proofs.Accepted.{accepted-none, made, by-move}
 use Rattle.demands.proofs.Lasting.{long, made-lasting}
 use Rattle.demands.proofs.Standing.{sound-kept, words-kept, standing}
-use Rattle.demands.proofs.Demand1.{demand1}
+use Rattle.demands.proofs.Demand1.{first-holds, demand1}
 
 -- ACCEPTED
 
@@ -131,7 +131,7 @@ module _ (t : Table) where
 
 -- "Saving and loading undo each other, and loading accepts only bytes that saving writes."
 pub undo-each-other : UndoEachOther
-unfolding lines HoldsIn
+unfolding lines First HoldsIn
 undo-each-other =
     record {
       load-save = λ words room bytes other e fits.
@@ -147,7 +147,7 @@ undo-each-other =
       accepts-only = λ words bytes wide b a. (left (Call.Load words bytes), bytes, standing .load words bytes wide b a, save-left words bytes a bytes (omega arith));
       refuses-others = λ words bytes seven.
           let exact = demand1 (Call.Load words bytes) .exactly 3 in (
-            λ e. ⊎-elim (λ x. omega (arith, x .1)) (⊎-elim (λ x. x .1) (⊎-elim (λ x. omega (arith, x .0)) (λ x. absurd x))) (exact .0 e .0),
-            λ n. exact .1 (inr (inl (refl, n)), λ j less. ⊎-elim (λ x. omega (arith, x .1)) (⊎-elim (λ x. omega (arith, x .0)) (⊎-elim (λ x. omega (arith, x .0)) (λ x. x)))),
+            λ e. ⊎-elim (λ x. omega (arith, x .1)) (⊎-elim (λ x. x .1) (⊎-elim (λ x. omega (arith, x .0)) (λ x. absurd x))) (first-holds 3 (lines (Call.Load words bytes)) (exact .0 e)),
+            λ n. exact .1 (inr (λ short. omega arith, inl (refl, n))),
           );
     }

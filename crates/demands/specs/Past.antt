@@ -26,6 +26,7 @@ handed (Call.Fresh words) = Handed.toWrite (λ w. Call.Fresh w) words
 handed (Call.Open words parent) = Handed.toWrite (λ w. Call.Open w parent) words
 handed (Call.Navigate words from) = Handed.toWrite (λ w. Call.Navigate w from) words
 handed (Call.Traverse words δ room) = Handed.toWrite (λ w. Call.Traverse w δ room) words
+handed (Call.Drop words frame) = Handed.toWrite (λ w. Call.Drop w frame) words
 handed (Call.Position words) = Handed.toRead (λ w. Call.Position w) words
 handed (Call.Visible words d) = Handed.toRead (λ w. Call.Visible w d) words
 handed (Call.Lists words takens upcomings) = Handed.toRead (λ w. Call.Lists w takens upcomings) words

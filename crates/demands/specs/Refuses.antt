@@ -1,13 +1,14 @@
 -- Demand 1: "It refuses only by the nine refusals of document 01, exactly when that document says, and then each lent word and byte reads as
--- before."
+-- before." Document 02 adds to these.
 use Prim.Native.Nat.{ℕ, _≤_, _<_}
 use mathlib.Core.List.{List, [], _∷_}
 use mathlib.Core.Logic.{_↔_, _⊎_}
-use mathlib.Core.Bool.{false}
+use mathlib.Core.Bool.{Bool, false, _||_, So}
 use mathlib.Core.Path.{_≡_}
+use lib.Dec.{eqb}
 use lib.IntN.{ℤ, pos, negsuc, _+ℤ_, natAbs}
 use lib.ListN.{length}
-use Rattle.rules.specs.Rows.{Row, none, docAt}
+use Rattle.rules.specs.Rows.{Row, none, docAt, frameAt, parentAt}
 use Rattle.rules.specs.Steps.{position, steps, visible}
 use Rattle.rules.specs.Moves.{cleared, changes}
 use Rattle.rules.specs.Words.{capacity, tableOf, rowsOf}
@@ -68,7 +69,23 @@ UsedUp next = next ≡ none
 abbrev pub TooShort : List ℕ → List ℕ → Type 0
 TooShort room values = length room < length values
 
--- A number and when it is given.
+-- Row i is of frame f.
+abbrev pub RowOf : List ℕ → ℕ → ℕ → Type 0
+RowOf words f i = (i < length (rowsOf words)) × (frameAt (rowsOf words) i ≡ f)
+
+-- Drop: "4 for a frame not in the record"
+abbrev pub NoFrame : List ℕ → ℕ → Type 0
+NoFrame words f = (i : ℕ) → RowOf words f i → ⊥
+
+-- "10 for the root frame": its rows are without a parent.
+abbrev pub RootFrame : List ℕ → ℕ → Type 0
+RootFrame words f = (i : ℕ) × RowOf words f i × (parentAt (rowsOf words) i ≡ none)
+
+-- "5 when its parent isn't visible"
+abbrev pub ParentHidden : List ℕ → ℕ → Type 0
+ParentHidden words f = (i : ℕ) × RowOf words f i × (visible (rowsOf words) (parentAt (rowsOf words) i) ≡ false)
+
+-- A number and when it applies.
 pub record Line : Type 1 where
   pub number : ℕ
   pub condition : Type 0
@@ -77,7 +94,7 @@ infix 70 _if_
 abbrev pub _if_ : ℕ → Type 0 → Line
 k if P = record { number = k; condition = P }
 
--- THE TABLE "Nine ways to say no", read by call: each number that the call may give.
+-- THE TABLE "Nine ways to say no" with what document 02 adds, read by call: each number that the call may give, in the order in which they are asked.
 unfoldable pub lines : Call → List Line
 lines (Call.Fresh words) = 1 if Short words ∷ []
 lines (Call.Open words parent) =
@@ -87,6 +104,8 @@ lines (Call.Navigate words from) =
     1 if Short words ∷ 2 if Unsound words ∷ 4 if Absent words from ∷ 5 if Hidden words from ∷ 7 if Full words (cleared (rowsOf words))
     ∷ 8 if UsedUp (tableOf words .nextDoc) ∷ []
 lines (Call.Traverse words δ room) = 1 if Short words ∷ 2 if Unsound words ∷ 6 if Beyond words δ ∷ 9 if TooShort room (changes (tableOf words) δ) ∷ []
+lines (Call.Drop words frame) =
+    1 if Short words ∷ 2 if Unsound words ∷ 4 if NoFrame words frame ∷ 10 if RootFrame words frame ∷ 5 if ParentHidden words frame ∷ []
 lines (Call.Position words) = 1 if Short words ∷ 2 if Unsound words ∷ []
 lines (Call.Visible words d) = 1 if Short words ∷ 2 if Unsound words ∷ 4 if Absent words d ∷ []
 lines (Call.Lists words takens upcomings) =
@@ -98,7 +117,33 @@ lines (Call.Outline words room) = 1 if Short words ∷ 2 if Unsound words ∷ 9 
 lines (Call.Save words room) = 1 if Short words ∷ 2 if Unsound words ∷ 9 if TooShort room (saved (tableOf words)) ∷ []
 lines (Call.Load words bytes) = 1 if Short words ∷ 3 if NotSaved bytes ∷ 7 if (capacity words < length (loaded bytes .rows)) ∷ []
 
--- Condition k is among these lines and holds.
+-- The numbers that the table has.
+abbrev pub numbers : List ℕ
+numbers = 1 ∷ 2 ∷ 3 ∷ 4 ∷ 5 ∷ 6 ∷ 7 ∷ 8 ∷ 9 ∷ 10 ∷ []
+
+-- k is one of these numbers.
+abbrev pub among : ℕ → List ℕ → Bool
+among k [] = false
+among k (n ∷ rest) = eqb n k || among k rest
+
+-- Number k is the first of these lines that applies: its condition holds, and that of no line before it does.
+unfoldable pub First : ℕ → List Line → Type 0
+First k [] = ⊥
+First k (l ∷ rest) = ((l .number ≡ k) × l .condition) ⊎ ((l .condition → ⊥) × First k rest)
+
+pub record RefusesRightly (c : Call) : Type 0 where
+  -- "It refuses only by the nine refusals of document 01" and those of document 02
+  pub only : (k : ℕ) → outcome c .answer ≡ Answer.refuses k → So (among k numbers)
+  -- "exactly when that document says": where several apply, the first line of the call's table is given.
+  pub exactly : (k : ℕ) → (outcome c .answer ≡ Answer.refuses k) ↔ First k (lines c)
+  -- "and then each lent word and byte reads as before"
+  pub kept : (k : ℕ) → outcome c .answer ≡ Answer.refuses k → outcome c .lent ≡ lentTo c
+
+-- "Every call takes arbitrary table words, numbers and saved bytes [..]"
+abbrev pub Demand1 : Type 0
+Demand1 = (c : Call) → RefusesRightly c
+
+-- Number k is among these lines and its condition holds.
 unfoldable pub HoldsIn : ℕ → List Line → Type 0
 HoldsIn k [] = ⊥
 HoldsIn k (l ∷ rest) = ((l .number ≡ k) × l .condition) ⊎ HoldsIn k rest
@@ -107,14 +152,8 @@ HoldsIn k (l ∷ rest) = ((l .number ≡ k) × l .condition) ⊎ HoldsIn k rest
 abbrev pub Applies : ℕ → Call → Type 0
 Applies k c = HoldsIn k (lines c)
 
-pub record RefusesRightly (c : Call) : Type 0 where
-  -- "It refuses only by the nine refusals of document 01"
-  pub nine : (k : ℕ) → outcome c .answer ≡ Answer.refuses k → (1 ≤ k) × (k ≤ 9)
-  -- "exactly when that document says": "Where several apply, the smallest number is given."
-  pub exactly : (k : ℕ) → (outcome c .answer ≡ Answer.refuses k) ↔ (Applies k c × ((j : ℕ) → j < k → Applies j c → ⊥))
-  -- "and then each lent word and byte reads as before"
-  pub kept : (k : ℕ) → outcome c .answer ≡ Answer.refuses k → outcome c .lent ≡ lentTo c
-
--- "Every call takes arbitrary table words, numbers and saved bytes [..]"
-abbrev pub Demand1 : Type 0
-Demand1 = (c : Call) → RefusesRightly c
+-- "Where several apply, the smallest number is given": of every call of document 01 the first line that applies is the one with the smallest number.
+abbrev pub SmallestFirst : Type 0
+SmallestFirst =
+    (c : Call) → ((words : List ℕ) (frame : ℕ) → c ≡ Call.Drop words frame → ⊥) →
+    (k : ℕ) → First k (lines c) ↔ (Applies k c × ((j : ℕ) → j < k → Applies j c → ⊥))

@@ -1,4 +1,4 @@
--- What an accepted Open or Navigate may rely on. Assumes nothing.
+-- What an accepted Open, Navigate or Drop may rely on. Assumes nothing.
 use Prim.Native.Nat.{ℕ, _≤_, _<_}
 use mathlib.Core.List.{List}
 use mathlib.Core.Logic.{_≢_}
@@ -6,11 +6,12 @@ use mathlib.Core.Bool.{Bool, true, false, _||_, So}
 use mathlib.Core.Path.{_≡_, refl}
 use lib.ListN.{length}
 use borrow.Author.Tests.{ltb-false, leb-false, eqb-false, not-false}
-use Rattle.rules.specs.Rows.{none}
+use Rattle.rules.specs.Rows.{none, isFrame}
 use Rattle.rules.specs.Steps.{visible}
 use Rattle.rules.specs.Moves.{cleared}
 use Rattle.rules.specs.Words.{capacity, tableOf, rowsOf}
 use Rattle.rules.specs.Sound.{Sound}
+use Rattle.rules.specs.Saved.{parentOf}
 use Rattle.rules.specs.Calls.{Call, refusals, NoneGiven}
 use Rattle.laws.proofs.Tests.{clash}
 use Rattle.laws.proofs.Reflect.{sound-is}
@@ -56,4 +57,23 @@ navigate-relies words d h =
       seen = not-false _ (h .1 .1 .1 .0);
       roomy = leb-false _ _ (h .1 .1 .1 .1 .0);
       doc = eqb-false _ _ (h .1 .1 .1 .1 .1 .0);
+    }
+
+-- Of frame f.
+pub record Drops (words : List ℕ) (f : ℕ) : Type 0 where
+  pub long : 7 ≤ length words
+  pub sound : Sound words
+  pub there : So (isFrame (rowsOf words) f)
+  pub child : parentOf (rowsOf words) f ≢ none
+  pub seen : So (visible (rowsOf words) (parentOf (rowsOf words) f))
+
+pub drop-relies : (words : List ℕ) (f : ℕ) → NoneGiven (refusals (Call.Drop words f)) → Drops words f
+unfolding refusals NoneGiven
+drop-relies words f h =
+    record {
+      long = ltb-false _ _ (h .0);
+      sound = sound-is words .0 (not-false _ (h .1 .0));
+      there = not-false _ (h .1 .1 .0);
+      child = eqb-false _ _ (h .1 .1 .1 .0);
+      seen = not-false _ (h .1 .1 .1 .1 .0);
     }

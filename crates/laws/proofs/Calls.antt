@@ -41,6 +41,7 @@ accepted-gives c k e = subst IsGiven e (given c)
     given (Call.Open words parent) = tt
     given (Call.Navigate words from) = tt
     given (Call.Traverse words δ room) = tt
+    given (Call.Drop words frame) = tt
     given (Call.Position words) = tt
     given (Call.Visible words d) = tt
     given (Call.Lists words takens upcomings) = tt

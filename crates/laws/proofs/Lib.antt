@@ -7,6 +7,7 @@ pub mod Kept
 pub mod Tree
 pub mod Climb
 pub mod Removal
+pub mod Drop
 pub mod Navigate
 pub mod Travel
 pub mod Lists

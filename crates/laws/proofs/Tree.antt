@@ -9,9 +9,10 @@ use native.Mathlib.Omega.{arith}
 use lib.ListN.{length}
 use borrow.Author.Tests.{eqb-true, eq-eqb}
 use Rattle.rules.specs.Below.{count}
-use Rattle.rules.specs.Rows.{Row, Table, none, rowAt, docAt, frameAt, parentAt, place, withFlags}
+use Rattle.rules.specs.Rows.{Row, Table, none, rowAt, docAt, frameAt, parentAt, place, inFrame, withFlags}
 use Rattle.rules.specs.Sound.{S1, S6, S7, SoundTable}
-use Rattle.laws.proofs.Tests.{by-order, by-lt, below-cases, count-in, count-mono, earliest-is, gather-from}
+use Rattle.rules.specs.Saved.{parentOf}
+use Rattle.laws.proofs.Tests.{by-order, by-lt, below-cases, count-in, count-mono, least, earliest-is, gather-from}
 use Rattle.laws.proofs.Flags.{flags-length, flags-doc, flags-frame, flags-parent}
 use Rattle.laws.proofs.Append.{length-snoc, snoc-old, snoc-new}
 use Rattle.laws.proofs.Kept.{kept, kept-row}
@@ -46,6 +47,15 @@ pub place-is : (rows : List Row) {a b : ℕ} → TreeOf rows a b → (i d : ℕ)
 unfolding place
 place-is rows t i d l e =
     earliest-is _ (length rows) l (eq-eqb _ _ e) (λ m k s. let q = distinct t m i (omega arith) l (eqb-true _ _ s ∙ sym e) in omega arith)
+
+-- "Rows of one frame have one parent": it is the parent of each.
+pub parent-of : (rows : List Row) → ((i j : ℕ) → i < length rows → j < length rows → frameAt rows i ≡ frameAt rows j → parentAt rows i ≡ parentAt rows j) →
+    (i f : ℕ) → i < length rows → frameAt rows i ≡ f → parentOf rows f ≡ parentAt rows i
+unfolding parentOf
+parent-of rows kin i f l e =
+    let q = least (inFrame rows f) i (eq-eqb _ _ e) in
+    let m : q .0 < length rows = omega arith in
+    ap (parentAt rows) (earliest-is (inFrame rows f) (length rows) m (q .2) (q .3)) ∙ kin (q .0) i m l (eqb-true _ _ (q .2) ∙ sym e)
 
 -- OF A SOUND TABLE
 

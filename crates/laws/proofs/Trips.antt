@@ -14,8 +14,9 @@ use Rattle.rules.specs.Steps.{isStep, steps}
 use Rattle.rules.specs.Moves.{frames}
 use Rattle.rules.specs.Sound.{SoundTable}
 use Rattle.rules.specs.Saved.{docsOf, shownPlace, parentOf, saved, numberAt, documentsIn, toldRow, toldRows, loaded}
-use Rattle.laws.proofs.Tests.{test, clash, off, by-order, and-true, some-in, some-out, count-in, count-le, count-same, count-all, count-flat, count-zero, count-order, nth, one-out, one-in, least, earliest-is, latest-is, length-gather, gather-at, gather-from}
+use Rattle.laws.proofs.Tests.{test, clash, off, by-order, and-true, some-in, some-out, count-in, count-le, count-same, count-all, count-flat, count-zero, count-order, nth, one-out, one-in, least, latest-is, length-gather, gather-at, gather-from}
 use Rattle.laws.proofs.Frames.{step-in, step-out}
+use Rattle.laws.proofs.Tree.{parent-of}
 use Rattle.laws.proofs.Standing.{count-rest}
 use Rattle.laws.proofs.Pieces.{sum-same, sum-within, sum-least, sum-ones, sum-classes, length-rising}
 use Rattle.laws.proofs.Numbers.{frameNo, documents, length-docs, length-saved, read-count, read-next-doc, read-next-frame, read-number, read-parent, read-documents, read-shown, read-body}
@@ -137,12 +138,7 @@ module _ {room : ℕ} (t : Table) (sound : SoundTable room t) where
 
     -- "Rows of one frame have one parent."
     parent-is : parentOf (t .rows) its ≡ parentAt (t .rows) i
-    unfolding parentOf
-    parent-is =
-        let q = least (inFrame (t .rows) its) i in-its in
-        let m : q .0 < length (t .rows) = omega arith in
-        ap (parentAt (t .rows)) (earliest-is (inFrame (t .rows) its) (length (t .rows)) m (q .2) (q .3))
-        ∙ sound .s5 .kin (q .0) i m l (eqb-true _ _ (q .2))
+    parent-is = parent-of (t .rows) (sound .s5 .kin) i its l refl
 
     -- "each frame has exactly one shown row"
     abbrev shows : ℕ → Bool

@@ -357,6 +357,10 @@ crossing a b =
 abbrev next : ℕ → ℕ → List ℕ
 next d f = holding 2 (row 0 0 none 1 ∷ []) d f
 
+-- Document 0 gave way to document 1 in its frame.
+abbrev left : List ℕ
+left = holding 2 (row 0 0 none 0 ∷ row 1 0 none 1 ∷ []) 2 1
+
 -- A record that Position refuses as unsound.
 abbrev unsound : List ℕ → Small
 unsound words = small (Call.Position words) (no 2) []
@@ -396,6 +400,25 @@ smalls =
     ∷ small (Call.Stretch (4 ∷ 2 ∷ []) (5 ∷ []) (pos 2)) (Answer.gives []) []
     ∷ small (Call.StretchCount (4 ∷ 2 ∷ []) (5 ∷ []) (pos 1)) (ok 1) []
     ∷ small (Call.StretchCount (4 ∷ 2 ∷ []) (5 ∷ []) (negℤ (pos 2147483648))) (no 6) []
+    -- Drop. "all its rows and all beneath them go, gaps close in order, the rest keeps its flags", both next numbers stay, and rows no longer in use become
+    -- zero words: of X frames 1, 2 and 3.
+    ∷ small (Call.Drop X 1) (ok 4) (holding 8 (row 0 0 none 1 ∷ row 3 3 0 1 ∷ []) 6 4 ∷ [])
+    ∷ small (Call.Drop X 2) (ok 2) (holding 8 (row 0 0 none 1 ∷ row 1 1 0 1 ∷ row 3 3 0 1 ∷ row 5 1 0 0 ∷ []) 6 4 ∷ [])
+    ∷ small (Call.Drop X 3) (ok 1) (holding 8 (row 0 0 none 1 ∷ row 1 1 0 1 ∷ row 2 2 1 0 ∷ row 4 2 1 1 ∷ row 5 1 0 0 ∷ []) 6 4 ∷ [])
+    -- "4 for a frame not in the record", though it is a document's number, and though document 0 is not visible; "10 for the root frame", of which no document
+    -- is a visible parent.
+    ∷ small (Call.Drop X 9) (no 4) (X ∷ [])
+    ∷ small (Call.Drop X 5) (no 4) (X ∷ [])
+    ∷ small (Call.Drop left 1) (no 4) (left ∷ [])
+    ∷ small (Call.Drop X 0) (no 10) (X ∷ [])
+    ∷ small (Call.Drop left 0) (no 10) (left ∷ [])
+    -- "5 when its parent isn't visible": frame 2 in document 1, which is not shown.
+    ∷ small (Call.Drop underHidden 2) (no 5) (underHidden ∷ [])
+    -- 1 and 2 come before all three.
+    ∷ small (Call.Drop (replicate 6 0) 0) (no 1) (replicate 6 0 ∷ [])
+    ∷ small (Call.Drop nine 9) (no 2) (nine ∷ [])
+    ∷ small (Call.Drop nine 0) (no 2) (nine ∷ [])
+    ∷ small (Call.Drop (underHidden ++ 7 ∷ 7 ∷ 7 ∷ 7 ∷ []) 2) (no 2) ((underHidden ++ 7 ∷ 7 ∷ 7 ∷ 7 ∷ []) ∷ [])
     -- "record unsound", by one rule alone. S1: no row; more rows than C, which is 1.
     ∷ unsound (0 ∷ 1 ∷ 1 ∷ 0 ∷ 0 ∷ 0 ∷ 0 ∷ [])
     ∷ unsound (2 ∷ 2 ∷ 1 ∷ 0 ∷ 0 ∷ none ∷ 1 ∷ 1 ∷ 0 ∷ none ∷ [])

@@ -1,5 +1,5 @@
 -- The calls: what is lent to each, when each is refused, and what it answers and leaves otherwise.
-use Prim.Native.Nat.{ℕ, _/_}
+use Prim.Native.Nat.{ℕ, _-_, _/_}
 use mathlib.Core.Bool.{Bool, true, false, not, _||_, So, cond}
 use mathlib.Core.List.{List, [], _∷_}
 use mathlib.Core.Logic.{_⊎_}
@@ -7,20 +7,21 @@ use mathlib.Core.Path.{_≡_}
 use lib.Dec.{eqb, leb, ltb}
 use lib.IntN.{ℤ, pos, negsuc, _+ℤ_, natAbs}
 use lib.ListN.{length}
-use Rattle.rules.specs.Rows.{Row, none, inRecord, flag}
+use Rattle.rules.specs.Rows.{Row, none, inRecord, isFrame, flag}
 use Rattle.rules.specs.Steps.{position, steps, visible}
-use Rattle.rules.specs.Moves.{freshTable, opened, cleared, navigated, traversed, changes}
+use Rattle.rules.specs.Moves.{freshTable, opened, cleared, navigated, traversed, dropped, changes}
 use Rattle.rules.specs.Words.{put, capacity, tableOf, rowsOf, written}
 use Rattle.rules.specs.Sound.{sound?}
 use Rattle.rules.specs.Asks.{takenList, upcomingList, tooFar, stretched, outlineOf}
-use Rattle.rules.specs.Saved.{saved, loaded, fromSave?}
+use Rattle.rules.specs.Saved.{parentOf, saved, loaded, fromSave?}
 
--- A call with all that it is handed: `words` is the record, `room` a lent answer buffer, `parent`, `from` and `d` documents.
+-- A call with all that it is handed: `words` is the record, `room` a lent answer buffer, `parent`, `from` and `d` documents, `frame` a frame.
 pub data Call : Type 0 where
   Fresh : (words : List ℕ) → Call
   Open : (words : List ℕ) (parent : ℕ) → Call
   Navigate : (words : List ℕ) (from : ℕ) → Call
   Traverse : (words : List ℕ) (δ : ℤ) (room : List ℕ) → Call
+  Drop : (words : List ℕ) (frame : ℕ) → Call
   Position : (words : List ℕ) → Call
   Visible : (words : List ℕ) (d : ℕ) → Call
   Lists : (words : List ℕ) (takens upcomings : List ℕ) → Call
@@ -46,6 +47,7 @@ lentTo (Call.Fresh words) = words ∷ []
 lentTo (Call.Open words parent) = words ∷ []
 lentTo (Call.Navigate words from) = words ∷ []
 lentTo (Call.Traverse words δ room) = words ∷ room ∷ []
+lentTo (Call.Drop words frame) = words ∷ []
 lentTo (Call.Position words) = []
 lentTo (Call.Visible words d) = []
 lentTo (Call.Lists words takens upcomings) = takens ∷ upcomings ∷ []
@@ -55,7 +57,7 @@ lentTo (Call.Outline words room) = room ∷ []
 lentTo (Call.Save words room) = room ∷ []
 lentTo (Call.Load words bytes) = words ∷ []
 
--- THE TABLE "Nine ways to say no".
+-- THE TABLE "Nine ways to say no", with what document 02 adds.
 
 -- "record under 7 words"; "record unsound"
 abbrev pub short : List ℕ → Bool
@@ -91,7 +93,14 @@ usedUp next = eqb next none
 abbrev pub tooShort : List ℕ → List ℕ → Bool
 tooShort room values = ltb (length room) (length values)
 
--- A number and when it is given.
+-- "Refusals: 4 for a frame not in the record [..] 10 for the root frame", which has no parent
+abbrev pub noFrame : List ℕ → ℕ → Bool
+noFrame words f = not (isFrame (rowsOf words) f)
+
+abbrev pub rootFrame : List ℕ → ℕ → Bool
+rootFrame words f = eqb (parentOf (rowsOf words) f) none
+
+-- A number and when it is given, unless a line before it applies.
 pub record Rung : Type 0 where
   pub number : ℕ
   pub holds : Bool
@@ -100,6 +109,7 @@ infix 70 _when_
 abbrev pub _when_ : ℕ → Bool → Rung
 k when b = record { number = k; holds = b }
 
+-- The lines of each call in the order in which they are asked: that of their numbers but for "10 comes after 4 and before 5".
 unfoldable pub refusals : Call → List Rung
 refusals (Call.Fresh words) = 1 when short words ∷ []
 refusals (Call.Open words parent) =
@@ -111,6 +121,9 @@ refusals (Call.Navigate words from) =
 refusals (Call.Traverse words δ room) =
     let cramped = tooShort room (changes (tableOf words) δ) in
     1 when short words ∷ 2 when unsound words ∷ 6 when beyond words δ ∷ 9 when cramped ∷ []
+refusals (Call.Drop words frame) =
+    1 when short words ∷ 2 when unsound words ∷ 4 when noFrame words frame ∷ 10 when rootFrame words frame
+    ∷ 5 when hidden words (parentOf (rowsOf words) frame) ∷ []
 refusals (Call.Position words) = 1 when short words ∷ 2 when unsound words ∷ []
 refusals (Call.Visible words d) = 1 when short words ∷ 2 when unsound words ∷ 4 when absent words d ∷ []
 refusals (Call.Lists words takens upcomings) =
@@ -134,6 +147,8 @@ accepted (Call.Open words parent) =
 accepted (Call.Navigate words from) = tableOf words .nextDoc ∷ [] leaving written words (navigated (tableOf words) from) ∷ []
 accepted (Call.Traverse words δ room) =
     length (changes (tableOf words) δ) / 4 ∷ [] leaving written words (traversed (tableOf words) δ) ∷ put room 0 (changes (tableOf words) δ) ∷ []
+accepted (Call.Drop words frame) =
+    (length (rowsOf words) - length (dropped (tableOf words) frame .rows)) ∷ [] leaving written words (dropped (tableOf words) frame) ∷ []
 accepted (Call.Position words) = position (rowsOf words) ∷ steps (rowsOf words) ∷ steps (rowsOf words) ∷ [] leaving []
 accepted (Call.Visible words d) = flag (visible (rowsOf words) d) ∷ [] leaving []
 accepted (Call.Lists words takens upcomings) =
@@ -145,7 +160,8 @@ accepted (Call.Outline words room) = length (outlineOf (tableOf words)) / 2 ∷ 
 accepted (Call.Save words room) = length (saved (tableOf words)) ∷ [] leaving put room 0 (saved (tableOf words)) ∷ []
 accepted (Call.Load words bytes) = length (loaded bytes .rows) ∷ [] leaving written words (loaded bytes) ∷ []
 
--- "Where several apply, the smallest number is given. A refusal returns its number alone [..] and changes no lent word or byte."
+-- Where several apply, the first line of the call's table is given: among the nine "the smallest number". "A refusal returns its number alone [..] and changes
+-- no lent word or byte."
 unfoldable pub ladder : List Rung → List (List ℕ) → Outcome → Outcome
 ladder [] lent done = done
 ladder (r ∷ rungs) lent done =

@@ -1,4 +1,4 @@
--- What the moves make of the rows (document 01, "The calls"; 001, definitions 2 and 3 with patches 1 to 4).
+-- What the moves make of the rows (document 01, "The calls"; 001, definitions 2 and 3 with patches 1 to 4; document 02).
 use Prim.Native.Nat.{ℕ, zero, suc}
 use mathlib.Core.Bool.{Bool, false, not, _&&_, _||_, cond}
 use mathlib.Core.List.{List, [], _∷_, _++_, flatMap}
@@ -85,6 +85,10 @@ walked (negsuc k) rows = times (suc k) back rows
 
 abbrev pub traversed : Table → ℤ → Table
 traversed t δ = record { rows = walked δ (t .rows); nextDoc = t .nextDoc; nextFrame = t .nextFrame }
+
+-- "removal of a frame by its number: all its rows and all beneath them go, gaps close in order, the rest keeps its flags" (document 02, L1)
+abbrev pub dropped : Table → ℕ → Table
+dropped t f = record { rows = without (inFrame (t .rows) f) (t .rows); nextDoc = t .nextDoc; nextFrame = t .nextFrame }
 
 -- The frames of the record "by rising frame number".
 abbrev pub frames : Table → List ℕ
