@@ -9,7 +9,7 @@ use lib.Seq.{take-all}
 use borrow.Author.Tests.{lt-ltb, le-ltb}
 use Rattle.laws.proofs.Tests.{by-lt, clash}
 use Rattle.lines.specs.Decimal.{numeral}
-use Rattle.lines.specs.Lines.{Command, openWord, navWord, goWord, starts?, minus?, opening, navigating, forth, back, going, worded, parse}
+use Rattle.lines.specs.Lines.{Command, openWord, navWord, goWord, dropWord, starts?, minus?, opening, navigating, dropping, forth, back, going, otherWord, worded, parse}
 use Rattle.lines.specs.declared.Number.{Number}
 use Rattle.lines.proofs.Numerals.{minus-empty}
 
@@ -45,9 +45,18 @@ module _ (line : List ℕ) (a : Bool) (e : a ≡ starts? openWord line) where
       unfolding worded
       worded-go r t h = rw (← e, x, ← f, y, ← g, t) h
 
-      pub worded-bad : d ≡ false → Command.bad ≡ worded line
+      pub worded-other : (r : Command) → d ≡ false → r ≡ otherWord line → r ≡ worded line
       unfolding worded
-      worded-bad t = rw (← e, x, ← f, y, ← g, t) refl
+      worded-other r t h = rw (← e, x, ← f, y, ← g, t) h
+
+module _ (line : List ℕ) (a : Bool) (e : a ≡ starts? dropWord line) where
+  pub other-drop : (n : Number) (r : Command) → a ≡ true → n ≡ numeral 4294967295 (drop 5 line) → r ≡ dropping n → r ≡ otherWord line
+  unfolding otherWord
+  other-drop n r t f h = rw (← e, t, ← f) h
+
+  pub other-bad : a ≡ false → Command.bad ≡ otherWord line
+  unfolding otherWord
+  other-bad t = rw (← e, t) refl
 
 module _ (line : List ℕ) where
   pub parse-long : 64 < length line → Command.bad ≡ parse line

@@ -4,82 +4,82 @@ use mathlib.Core.Path.{_≡_, refl}
 use lib.IntN.{pos, negsuc}
 use Rattle.rules.specs.Below.{allBelow}
 use Rattle.lines.specs.Decimal.{decimalBy, decimal, decimal?, spelled, upTo, numeral}
-use Rattle.lines.specs.Lines.{Command, starts?, going, worded, parse}
+use Rattle.lines.specs.Lines.{Command, starts?, going, otherWord, worded, parse}
 use Rattle.lines.specs.Reply.{Said, statusText, answerText}
 
 -- `open 0`
 pub open-root : parse (111 ∷ 112 ∷ 101 ∷ 110 ∷ 32 ∷ 48 ∷ []) ≡ Command.opens 0
-unfolding parse worded going starts? numeral upTo decimal? spelled allBelow
+unfolding parse worded otherWord going starts? numeral upTo decimal? spelled allBelow
 open-root = refl
 
 -- `nav 12`
 pub nav-twelve : parse (110 ∷ 97 ∷ 118 ∷ 32 ∷ 49 ∷ 50 ∷ []) ≡ Command.navs 12
-unfolding parse worded going starts? numeral upTo decimal? spelled allBelow
+unfolding parse worded otherWord going starts? numeral upTo decimal? spelled allBelow
 nav-twelve = refl
 
 -- `go -2`
 pub go-back : parse (103 ∷ 111 ∷ 32 ∷ 45 ∷ 50 ∷ []) ≡ Command.goes (negsuc 1)
-unfolding parse worded going starts? numeral upTo decimal? spelled allBelow
+unfolding parse worded otherWord going starts? numeral upTo decimal? spelled allBelow
 go-back = refl
 
 -- `go 1`
 pub go-forth : parse (103 ∷ 111 ∷ 32 ∷ 49 ∷ []) ≡ Command.goes (pos 1)
-unfolding parse worded going starts? numeral upTo decimal? spelled allBelow
+unfolding parse worded otherWord going starts? numeral upTo decimal? spelled allBelow
 go-forth = refl
 
 -- `open 4294967295`
 pub open-most : parse (111 ∷ 112 ∷ 101 ∷ 110 ∷ 32 ∷ 52 ∷ 50 ∷ 57 ∷ 52 ∷ 57 ∷ 54 ∷ 55 ∷ 50 ∷ 57 ∷ 53 ∷ []) ≡ Command.opens 4294967295
-unfolding parse worded going starts? numeral upTo decimal? spelled allBelow
+unfolding parse worded otherWord going starts? numeral upTo decimal? spelled allBelow
 open-most = refl
 
 -- `open 4294967296`
 pub open-over : parse (111 ∷ 112 ∷ 101 ∷ 110 ∷ 32 ∷ 52 ∷ 50 ∷ 57 ∷ 52 ∷ 57 ∷ 54 ∷ 55 ∷ 50 ∷ 57 ∷ 54 ∷ []) ≡ Command.bad
-unfolding parse worded going starts? numeral upTo decimal? spelled allBelow
+unfolding parse worded otherWord going starts? numeral upTo decimal? spelled allBelow
 open-over = refl
 
 -- `go -2147483648`
 pub go-least : parse (103 ∷ 111 ∷ 32 ∷ 45 ∷ 50 ∷ 49 ∷ 52 ∷ 55 ∷ 52 ∷ 56 ∷ 51 ∷ 54 ∷ 52 ∷ 56 ∷ []) ≡ Command.goes (negsuc 2147483647)
-unfolding parse worded going starts? numeral upTo decimal? spelled allBelow
+unfolding parse worded otherWord going starts? numeral upTo decimal? spelled allBelow
 go-least = refl
 
 -- `go 2147483648`
 pub go-over : parse (103 ∷ 111 ∷ 32 ∷ 50 ∷ 49 ∷ 52 ∷ 55 ∷ 52 ∷ 56 ∷ 51 ∷ 54 ∷ 52 ∷ 56 ∷ []) ≡ Command.bad
-unfolding parse worded going starts? numeral upTo decimal? spelled allBelow
+unfolding parse worded otherWord going starts? numeral upTo decimal? spelled allBelow
 go-over = refl
 
 -- `go -0`
 pub minus-zero : parse (103 ∷ 111 ∷ 32 ∷ 45 ∷ 48 ∷ []) ≡ Command.bad
-unfolding parse worded going starts? numeral upTo decimal? spelled allBelow
+unfolding parse worded otherWord going starts? numeral upTo decimal? spelled allBelow
 minus-zero = refl
 
 -- `go 0`
 pub go-zero : parse (103 ∷ 111 ∷ 32 ∷ 48 ∷ []) ≡ Command.goes (pos 0)
-unfolding parse worded going starts? numeral upTo decimal? spelled allBelow
+unfolding parse worded otherWord going starts? numeral upTo decimal? spelled allBelow
 go-zero = refl
 
 -- `nav 01`
 pub leading-zero : parse (110 ∷ 97 ∷ 118 ∷ 32 ∷ 48 ∷ 49 ∷ []) ≡ Command.bad
-unfolding parse worded going starts? numeral upTo decimal? spelled allBelow
+unfolding parse worded otherWord going starts? numeral upTo decimal? spelled allBelow
 leading-zero = refl
 
 -- `nav +1`
 pub plus : parse (110 ∷ 97 ∷ 118 ∷ 32 ∷ 43 ∷ 49 ∷ []) ≡ Command.bad
-unfolding parse worded going starts? numeral upTo decimal? spelled allBelow
+unfolding parse worded otherWord going starts? numeral upTo decimal? spelled allBelow
 plus = refl
 
 -- `open -1`
 pub minus-after-open : parse (111 ∷ 112 ∷ 101 ∷ 110 ∷ 32 ∷ 45 ∷ 49 ∷ []) ≡ Command.bad
-unfolding parse worded going starts? numeral upTo decimal? spelled allBelow
+unfolding parse worded otherWord going starts? numeral upTo decimal? spelled allBelow
 minus-after-open = refl
 
 -- `nav `
 pub no-number : parse (110 ∷ 97 ∷ 118 ∷ 32 ∷ []) ≡ Command.bad
-unfolding parse worded going starts? numeral upTo decimal? spelled allBelow
+unfolding parse worded otherWord going starts? numeral upTo decimal? spelled allBelow
 no-number = refl
 
 -- `nav 1 `
 pub more-after : parse (110 ∷ 97 ∷ 118 ∷ 32 ∷ 49 ∷ 32 ∷ []) ≡ Command.bad
-unfolding parse worded going starts? numeral upTo decimal? spelled allBelow
+unfolding parse worded otherWord going starts? numeral upTo decimal? spelled allBelow
 more-after = refl
 
 -- `ok 1 0/0`
@@ -101,3 +101,12 @@ ok-many = refl
 pub bad-line : answerText Said.bad ≡ 98 ∷ 97 ∷ 100 ∷ 10 ∷ []
 unfolding answerText statusText decimal decimalBy
 bad-line = refl
+
+-- `drop 12`, and `drop -1`
+pub drop-twelve : parse (100 ∷ 114 ∷ 111 ∷ 112 ∷ 32 ∷ 49 ∷ 50 ∷ []) ≡ Command.drops 12
+unfolding parse worded otherWord going starts? numeral upTo decimal? spelled allBelow
+drop-twelve = refl
+
+pub drop-below : parse (100 ∷ 114 ∷ 111 ∷ 112 ∷ 32 ∷ 45 ∷ 49 ∷ []) ≡ Command.bad
+unfolding parse worded otherWord going starts? numeral upTo decimal? spelled allBelow
+drop-below = refl

@@ -11,7 +11,7 @@ use lib.Seq.{ext-getD, getD-take}
 use borrow.Author.Tests.{le-ltb, le-leb, leb-true, eqb-true, eq-eqb, ne-eqb}
 use Rattle.laws.proofs.Tests.{test, all-in, all-out}
 use Rattle.lines.specs.Decimal.{decimal, signed, numeral}
-use Rattle.lines.specs.Lines.{Command, InRange, openWord, navWord, goWord, starts?, minus?, opening, navigating, forth, back, going, worded, parse, printed}
+use Rattle.lines.specs.Lines.{Command, InRange, openWord, navWord, goWord, dropWord, starts?, minus?, numbered, back, going, otherWord, worded, parse, printed}
 use Rattle.lines.specs.declared.Number.{Number}
 use Rattle.lines.specs.declared.Number.the-variants.{Is, Nothing}
 use Rattle.lines.proofs.Firsts.{starts-not}
@@ -59,11 +59,11 @@ unfolding parse
 short line c l e = rw (le-ltb 64 (length line) l) e
 
 worded-empty : worded [] ≡ Command.bad
-unfolding worded starts?
+unfolding worded otherWord starts?
 worded-empty = refl
 
 pub parse-printed : (c : Command) → InRange c → parse (printed c) ≡ c
-unfolding printed worded
+unfolding printed worded otherWord
 parse-printed (Command.opens d) l =
     let t = ten d l in
     short (openWord ++ decimal d) _ (omega arith) (rw (starts-word openWord (decimal d), numeral-decimal 4294967295 d l) refl)
@@ -76,6 +76,12 @@ parse-printed (Command.goes δ) l =
     let o = sym (starts-not openWord (goWord ++ signed δ) 0 (omega arith) (λ e. omega arith)) in
     let n = sym (starts-not navWord (goWord ++ signed δ) 0 (omega arith) (λ e. omega arith)) in
     short (goWord ++ signed δ) _ (omega arith) (rw (o, n, starts-word goWord (signed δ)) (going-signed δ l))
+parse-printed (Command.drops f) l =
+    let t = ten f l in
+    let o = sym (starts-not openWord (dropWord ++ decimal f) 0 (omega arith) (λ e. omega arith)) in
+    let n = sym (starts-not navWord (dropWord ++ decimal f) 0 (omega arith) (λ e. omega arith)) in
+    let g = sym (starts-not goWord (dropWord ++ decimal f) 0 (omega arith) (λ e. omega arith)) in
+    short (dropWord ++ decimal f) _ (omega arith) (rw (o, n, g, starts-word dropWord (decimal f), numeral-decimal 4294967295 f l) refl)
 parse-printed Command.bad l = short [] _ (omega arith) worded-empty
 
 -- ONLY THESE LINES ARE READ
@@ -89,20 +95,29 @@ pub record Line (line : List ℕ) (c : Command) : Type 0 where
 abbrev Good : Command → Type 0
 Good c = c ≡ Command.bad → ⊥
 
-opening-only : (line : List ℕ) (k : Number) → line ≡ openWord ++ drop 5 line → k ≡ numeral 4294967295 (drop 5 line) → Good (opening k) → Line line (opening k)
-unfolding printed
-opening-only line (Is d) w e g = let o = numeral-only _ _ d (sym e) in record { text = w ∙ ap (λ t. openWord ++ t) (o .0); fits = o .1 }
-opening-only line Nothing w e g = absurd (g refl)
+-- A word and a number after it.
+numbered-only : (asks : ℕ → Command) (top : ℕ) (word rest : List ℕ) → ((n : ℕ) → printed (asks n) ≡ word ++ decimal n) → ((n : ℕ) → n ≤ top → InRange (asks n)) →
+    (line : List ℕ) → line ≡ word ++ rest → (k : Number) → k ≡ numeral top rest → Good (numbered asks k) → Line line (numbered asks k)
+numbered-only asks top word rest says fits line w (Is n) e g =
+    let o = numeral-only _ _ n (sym e) in record { text = w ∙ ap (λ t. word ++ t) (o .0) ∙ sym (says n); fits = fits n (o .1) }
+numbered-only asks top word rest says fits line w Nothing e g = absurd (g refl)
 
-navigating-only : (line : List ℕ) (k : Number) → line ≡ navWord ++ drop 4 line → k ≡ numeral 4294967295 (drop 4 line) → Good (navigating k) → Line line (navigating k)
+-- The lines of the commands with one number.
+opens-says : (n : ℕ) → printed (Command.opens n) ≡ openWord ++ decimal n
 unfolding printed
-navigating-only line (Is d) w e g = let o = numeral-only _ _ d (sym e) in record { text = w ∙ ap (λ t. navWord ++ t) (o .0); fits = o .1 }
-navigating-only line Nothing w e g = absurd (g refl)
+opens-says n = refl
 
-forth-only : (line : List ℕ) (k : Number) → line ≡ goWord ++ drop 3 line → k ≡ numeral 2147483647 (drop 3 line) → Good (forth k) → Line line (forth k)
+navs-says : (n : ℕ) → printed (Command.navs n) ≡ navWord ++ decimal n
 unfolding printed
-forth-only line (Is n) w e g = let o = numeral-only _ _ n (sym e) in record { text = w ∙ ap (λ t. goWord ++ t) (o .0); fits = o .1 }
-forth-only line Nothing w e g = absurd (g refl)
+navs-says n = refl
+
+drops-says : (n : ℕ) → printed (Command.drops n) ≡ dropWord ++ decimal n
+unfolding printed
+drops-says n = refl
+
+goes-says : (n : ℕ) → printed (Command.goes (pos n)) ≡ goWord ++ decimal n
+unfolding printed
+goes-says n = refl
 
 -- A text with a minus is a minus and the rest.
 minus-rest : (text : List ℕ) → minus? text ≡ true → text ≡ 45 ∷ drop 1 text
@@ -121,20 +136,27 @@ unfolding going
 going-only line w g =
     test (minus? (drop 3 line))
     (λ m. rw m (back-only line _ (w ∙ ap (λ t. goWord ++ t) (minus-rest (drop 3 line) m)) refl (rw m at g)))
-    (λ m. rw m (forth-only line _ w refl (rw m at g)))
+    (λ m. rw m (numbered-only (λ k. Command.goes (pos k)) 2147483647 goWord (drop 3 line) goes-says (λ n l. l) line w _ refl (rw m at g)))
+
+other-only : (line : List ℕ) → Good (otherWord line) → Line line (otherWord line)
+unfolding otherWord
+other-only line g =
+    test (starts? dropWord line)
+    (λ d. rw d (numbered-only Command.drops 4294967295 dropWord (drop 5 line) drops-says (λ n l. l) line (word-starts dropWord line d) _ refl (rw d at g)))
+    (λ d. absurd ((rw d at g) refl))
 
 worded-only : (line : List ℕ) → Good (worded line) → Line line (worded line)
 unfolding worded
 worded-only line g =
     test (starts? openWord line)
-    (λ o. rw o (opening-only line _ (word-starts openWord line o) refl (rw o at g)))
+    (λ o. rw o (numbered-only Command.opens 4294967295 openWord (drop 5 line) opens-says (λ n l. l) line (word-starts openWord line o) _ refl (rw o at g)))
     (λ o.
     test (starts? navWord line)
-    (λ n. rw (o, n) (navigating-only line _ (word-starts navWord line n) refl (rw (o, n) at g)))
+    (λ n. rw (o, n) (numbered-only Command.navs 4294967295 navWord (drop 4 line) navs-says (λ n l. l) line (word-starts navWord line n) _ refl (rw (o, n) at g)))
     (λ n.
     test (starts? goWord line)
     (λ k. rw (o, n, k) (going-only line (word-starts goWord line k) (rw (o, n, k) at g)))
-    (λ k. absurd ((rw (o, n, k) at g) refl))))
+    (λ k. rw (o, n, k) (other-only line (rw (o, n, k) at g)))))
 
 -- "Any other line prints `bad`."
 pub parse-only : (line : List ℕ) (c : Command) → parse line ≡ c → (c ≡ Command.bad → ⊥) → Line line c

@@ -1,4 +1,4 @@
--- One line of a script, without its newline: "Lines `open P`, `nav D`, `go N` [..] at most 64 bytes".
+-- One line of a script, without its newline: "Lines `open P`, `nav D`, `go N` [..] at most 64 bytes"; "The script gains `drop F`" (document 02, L1).
 use Prim.Native.Nat.{ℕ, zero, suc, _≤_, _<_}
 use mathlib.Core.Bool.{Bool, _&&_, cond}
 use mathlib.Core.List.{List, [], _∷_, _++_}
@@ -12,11 +12,12 @@ use Rattle.lines.specs.declared.Number.the-variants.{Is, Nothing}
 use Rattle.lines.specs.declared.Command.{Command as Read}
 use Rattle.lines.specs.declared.Command.the-variants as Reads
 
--- What a line asks. `d` is a document, `δ` an amount.
+-- What a line asks. `d` is a document, `δ` an amount, `f` a frame.
 pub data Command : Type 0 where
   opens : (d : ℕ) → Command
   navs : (d : ℕ) → Command
   goes : (δ : ℤ) → Command
+  drops : (f : ℕ) → Command
   bad : Command
 
 -- `open `
@@ -31,6 +32,10 @@ navWord = 110 ∷ 97 ∷ 118 ∷ 32 ∷ []
 abbrev pub goWord : List ℕ
 goWord = 103 ∷ 111 ∷ 32 ∷ []
 
+-- `drop `
+abbrev pub dropWord : List ℕ
+dropWord = 100 ∷ 114 ∷ 111 ∷ 112 ∷ 32 ∷ []
+
 -- A line starts with a word.
 unfoldable pub starts? : List ℕ → List ℕ → Bool
 starts? word line = leb (length word) (length line) && allBelow (length word) (λ i. eqb (getD line i 0) (getD word i 0))
@@ -39,41 +44,46 @@ starts? word line = leb (length word) (length line) && allBelow (length word) (�
 abbrev pub minus? : List ℕ → Bool
 minus? text = eqb (getD text 0 0) 45
 
--- What a number asks after `open `; where there is none, the line is another line.
-abbrev pub opening : Number → Command
-opening (Is d) = Command.opens d
-opening Nothing = Command.bad
-
--- What a number asks after `nav `.
-abbrev pub navigating : Number → Command
-navigating (Is d) = Command.navs d
-navigating Nothing = Command.bad
-
--- What a number asks after `go `.
-abbrev pub forth : Number → Command
-forth (Is n) = Command.goes (pos n)
-forth Nothing = Command.bad
+-- What a number asks after a word; where there is none, the line is another line.
+abbrev pub numbered : (ℕ → Command) → Number → Command
+numbered asks (Is n) = asks n
+numbered asks Nothing = Command.bad
 
 -- Back by a number: "never `-0`".
 abbrev pub backBy : ℕ → Command
 backBy zero = Command.bad
 backBy (suc n) = Command.goes (negsuc n)
 
--- What a number asks after `go -`.
+-- What a number asks after `open `, `nav `, `drop `, `go ` and `go -`.
+abbrev pub opening : Number → Command
+opening n = numbered Command.opens n
+
+abbrev pub navigating : Number → Command
+navigating n = numbered Command.navs n
+
+abbrev pub dropping : Number → Command
+dropping n = numbered Command.drops n
+
+abbrev pub forth : Number → Command
+forth n = numbered (λ k. Command.goes (pos k)) n
+
 abbrev pub back : Number → Command
-back (Is n) = backBy n
-back Nothing = Command.bad
+back n = numbered backBy n
 
 -- What a text asks after `go `: "minus only after `go` [..] N fits 32 bits signed".
 unfoldable pub going : List ℕ → Command
 going text = cond (minus? text) (back (numeral 2147483648 (drop 1 text))) (forth (numeral 2147483647 text))
 
--- What a line asks by its word: "P and D fit 32 bits unsigned [..] Any other line prints `bad`".
+-- What a line asks by a word of document 02. "Any other line prints `bad`."
+unfoldable pub otherWord : List ℕ → Command
+otherWord line = cond (starts? dropWord line) (dropping (numeral 4294967295 (drop 5 line))) Command.bad
+
+-- What a line asks by its word: "P and D fit 32 bits unsigned".
 unfoldable pub worded : List ℕ → Command
 worded line =
     cond (starts? openWord line) (opening (numeral 4294967295 (drop 5 line)))
     (cond (starts? navWord line) (navigating (numeral 4294967295 (drop 4 line)))
-    (cond (starts? goWord line) (going (drop 3 line)) Command.bad))
+    (cond (starts? goWord line) (going (drop 3 line)) (otherWord line)))
 
 -- What a line asks: "at most 64 bytes".
 unfoldable pub parse : List ℕ → Command
@@ -84,6 +94,7 @@ unfoldable pub printed : Command → List ℕ
 printed (Command.opens d) = openWord ++ decimal d
 printed (Command.navs d) = navWord ++ decimal d
 printed (Command.goes δ) = goWord ++ signed δ
+printed (Command.drops f) = dropWord ++ decimal f
 printed Command.bad = []
 
 -- The numbers of a command fit: "P and D fit 32 bits unsigned, N fits 32 bits signed".
@@ -92,6 +103,7 @@ InRange (Command.opens d) = d ≤ 4294967295
 InRange (Command.navs d) = d ≤ 4294967295
 InRange (Command.goes (pos n)) = n ≤ 2147483647
 InRange (Command.goes (negsuc n)) = n < 2147483648
+InRange (Command.drops f) = f ≤ 4294967295
 InRange Command.bad = Unit {0}
 
 -- What the code read, in these words.
@@ -99,4 +111,5 @@ abbrev pub commandIs : Read → Command
 commandIs (Reads.Open d) = Command.opens (d .0)
 commandIs (Reads.Nav d) = Command.navs (d .0)
 commandIs (Reads.Go δ) = Command.goes δ
+commandIs (Reads.Drop f) = Command.drops (f .0)
 commandIs Reads.Bad = Command.bad

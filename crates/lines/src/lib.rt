@@ -1,5 +1,6 @@
 // One line of a script: what it asks, and the text of the line that answers it.
 use base::DocNo;
+use base::FrameNo;
 use base::Refusal;
 ghost use mathlib.Core.Bool.{true};
 ghost use mathlib.Core.List.{[], _∷_};
@@ -7,7 +8,7 @@ ghost use mathlib.Core.Path.{_≡_};
 ghost use Prim.Native.Nat.{_+_, _-_, _<_, _≤_};
 ghost use lib.ListN.{length};
 ghost use Rattle.lines.specs.Decimal.{decimal, digit?, leadingZero?, digits?, decimal?, spelled as spelledBy, upTo, numeral as numeralOf};
-ghost use Rattle.lines.specs.Lines.{starts? as startsWith, minus?, opening as openingOf, navigating as navigatingOf, forth as forthOf, back as backOf, going as goingOf, worded as wordedOf, parse as parseOf, commandIs};
+ghost use Rattle.lines.specs.Lines.{starts? as startsWith, minus?, opening as openingOf, navigating as navigatingOf, dropping as droppingOf, forth as forthOf, back as backOf, going as goingOf, otherWord, worded as wordedOf, parse as parseOf, commandIs};
 ghost use Rattle.laws.specs.Writes.{Wrote};
 ghost use Rattle.lines.specs.Reply.{replyIs, statusText, answerText};
 ghost use Rattle.lines.specs.Bounds.{Most};
@@ -17,6 +18,7 @@ pub enum Command {
     Open(DocNo),
     Nav(DocNo),
     Go(i32),
+    Drop(FrameNo),
     Bad,
 }
 
@@ -152,6 +154,16 @@ fn navigating(n: Number) -> Command
     }
 }
 
+// The command to take a frame out.
+fn dropping(n: Number) -> Command
+    ensures { λ r. ⌜ commandIs r ≡ droppingOf n ⌝ }
+{
+    match n {
+        Number::Is(f) => Command::Drop(FrameNo(f)),
+        Number::Nothing => Command::Bad,
+    }
+}
+
 // The command to go forward.
 fn forth(n: Number) -> Command
     requires { ⌜ Most 2147483647 n ⌝ }
@@ -202,6 +214,16 @@ fn going(text: &[u8]) -> Command
     forth(n)
 }
 
+// What a line asks by a first word that is none of `open`, `nav` and `go`.
+fn other_word(line: &[u8]) -> Command
+    ensures { λ r. ⌜ commandIs r ≡ otherWord (now (line .entry)) ⌝ }
+{
+    if starts(line, b"drop ") {
+        return dropping(numeral(&line[5..], 4294967295));
+    }
+    Command::Bad
+}
+
 // What a line asks by its first word.
 fn worded(line: &[u8]) -> Command
     ensures { λ r. ⌜ commandIs r ≡ wordedOf (now (line .entry)) ⌝ }
@@ -215,7 +237,7 @@ fn worded(line: &[u8]) -> Command
     if starts(line, b"go ") {
         return going(&line[3..]);
     }
-    Command::Bad
+    other_word(line)
 }
 
 // What a line asks.

@@ -5,7 +5,7 @@ use borrow.Author.Needs.{needs}
 use Rattle.lines.specs.Decimal.{numeral}
 use Rattle.lines.specs.Lines.{openWord, navWord, goWord, going}
 use Rattle.lines.proofs.Firsts.{starts-long}
-use Rattle.lines.proofs.Commands.{to-end, worded-open, worded-nav, worded-go, worded-bad}
+use Rattle.lines.proofs.Commands.{to-end, worded-open, worded-nav, worded-go, worded-other}
 use Rattle.lines.proofs.worded.Statement.{statement}
 use Rattle.lines.proofs.worded.Tie as tie
 
@@ -67,10 +67,12 @@ worded-spec =
     let c12 = c9 .before .before .before in
     let line = now (c12 .args .line) in let s = c3 .starts3 .ensures in let t = c2 .if3 .taken in
     worded-go line _ (c9 .starts .ensures) (c8 .if1 .left) _ (c6 .starts2 .ensures) (c5 .if2 .left) _ s _ t (c .going .ensures ∙ ap going (to-end line 3 (starts-long goWord line _ s t))))
-    (λ c. let c1 = c .before in
-    let c3 = c1 .before .before in
-    let c4 = c3 .before in
-    let c6 = c4 .before .before in
-    let c7 = c6 .before in
-    let c10 = c7 .before .before .before in
-    worded-bad (now (c10 .args .line)) _ (c7 .starts .ensures) (c6 .if1 .left) _ (c4 .starts2 .ensures) (c3 .if2 .left) _ (c1 .starts3 .ensures) (c .if3 .left)))
+    (λ c κs. search needs)
+    (λ c. let else3 = c .before in
+    let starts3 = else3 .before in
+    let else2 = starts3 .before .before in
+    let starts2 = else2 .before in
+    let else1 = starts2 .before .before in
+    let starts = else1 .before in
+    let start = starts .before .before .before in
+    worded-other (now (start .args .line)) _ (starts .starts .ensures) (else1 .if1 .left) _ (starts2 .starts2 .ensures) (else2 .if2 .left) _ (starts3 .starts3 .ensures) _ (else3 .if3 .left) (c .other-word .ensures)))
