@@ -1,6 +1,6 @@
 -- What one line of a script does: the call it asks, then Position. Its answer is in the words of document 01:
 -- "Accepted: `ok`, then the new document number (open, nav) or the count of changed frames (go), then position/steps.
--- Refused: `no`, the refusal, position/steps."
+-- Refused: `no`, the refusal, position/steps." "`drop F`, with the count of rows removed as its value" (document 02, L1).
 use Prim.Native.Nat.{ℕ}
 use mathlib.Core.List.{List, []}
 use mathlib.Core.Path.{_≡_}
@@ -19,7 +19,7 @@ abbrev pub deniedAt : Answer → ℕ → Said
 deniedAt (Answer.gives at) k = Said.denied k (getD at 0 0) (getD at 1 0)
 deniedAt (Answer.refuses k') k = Said.denied k' 0 0
 
--- A call's answer: of what it gives the first is told, the new document or the count of changed frames.
+-- A call's answer: of what it gives the first is told, the new document, the count of changed frames or that of rows removed.
 abbrev pub told : Answer → Answer → Said
 told at (Answer.gives values) = okAt at (getD values 0 0)
 told at (Answer.refuses k) = deniedAt at k
@@ -55,6 +55,7 @@ abbrev pub obeyed : List ℕ → List ℕ → Command → Turned
 obeyed words changes (Command.opens d) = moved (outcome (Call.Open words d)) changes
 obeyed words changes (Command.navs d) = moved (outcome (Call.Navigate words d)) changes
 obeyed words changes (Command.goes δ) = gone (outcome (Call.Traverse words δ changes))
+obeyed words changes (Command.drops f) = moved (outcome (Call.Drop words f)) changes
 obeyed words changes Command.bad = record { said = Said.bad; words = words; changes = changes }
 
 -- What a line does.

@@ -1,7 +1,9 @@
 // What one line of a script does to a record, and what it is answered.
 use asks::Standing;
 use base::DocNo;
+use base::FrameNo;
 use base::Refusal;
+use drops::Dropped;
 use lines::Command;
 use lines::Reply;
 use moves::Opened;
@@ -63,6 +65,16 @@ fn go_line(words: &mut [u32], changes: &mut [u32], delta: i32) -> Reply
     }
 }
 
+// `drop F`
+fn drop_line(words: &mut [u32], frame: FrameNo) -> Reply
+    ensures { λ r. ⌜ Leaves (outcome (Call.Drop (now (words .entry)) (frame .0))) (replyIs r) (now (words .exit)) ⌝ }
+{
+    match drops::drop_frame(words, frame) {
+        Dropped::Rows(n) => accept(words, n),
+        Dropped::Refused(r) => deny(words, r),
+    }
+}
+
 // What a line does: the record and the change words are then those of the definition, and the answer too.
 pub fn turn(words: &mut [u32], changes: &mut [u32], line: &[u8]) -> Reply
     ensures { λ r. ⌜ turned (now (words .entry)) (now (changes .entry)) (now (line .entry)) ≡ record { said = replyIs r; words = now (words .exit); changes = now (changes .exit) } ⌝ }
@@ -71,6 +83,7 @@ pub fn turn(words: &mut [u32], changes: &mut [u32], line: &[u8]) -> Reply
         Command::Open(p) => open_line(words, p),
         Command::Nav(d) => nav_line(words, d),
         Command::Go(delta) => go_line(words, changes, delta),
+        Command::Drop(f) => drop_line(words, f),
         Command::Bad => Reply::Bad,
     }
 }
