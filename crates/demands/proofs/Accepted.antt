@@ -9,7 +9,7 @@ use lib.ListN.{length, getD}
 use borrow.Author.Tests.{ltb-false, le-ltb, not-false}
 use Rattle.rules.specs.Rows.{Table}
 use Rattle.rules.specs.Steps.{position, steps}
-use Rattle.rules.specs.Moves.{opened, navigated, traversed, changes}
+use Rattle.rules.specs.Moves.{opened, navigated, traversed, dropped, changes}
 use Rattle.rules.specs.Words.{tableOf, rowsOf, written}
 use Rattle.rules.specs.Sound.{Sound}
 use Rattle.rules.specs.Calls.{Call, Answer, outside, refusals, accepted, outcome, Given, NoneGiven}
@@ -60,17 +60,20 @@ abbrev pub made : Table → Move → Table
 made t (Move.opens p) = opened t p
 made t (Move.navigates d) = navigated t d
 made t (Move.goes δ room) = traversed t δ
+made t (Move.drops f) = dropped t f
 
 pub accepted-after : (words : List ℕ) (m : Move) → NoneGiven (refusals (on words m)) → after words m ≡ written words (made (tableOf words) m)
 unfolding accepted
 accepted-after words (Move.opens p) h = ap (λ o. getD (o .lent) 0 []) (outcome-accepted _ h)
 accepted-after words (Move.navigates d) h = ap (λ o. getD (o .lent) 0 []) (outcome-accepted _ h)
 accepted-after words (Move.goes δ room) h = ap (λ o. getD (o .lent) 0 []) (outcome-accepted _ h)
+accepted-after words (Move.drops f) h = ap (λ o. getD (o .lent) 0 []) (outcome-accepted _ h)
 
 pub refused-after : (words : List ℕ) (m : Move) (k : ℕ) → Given k (refusals (on words m)) → after words m ≡ words
 refused-after words (Move.opens p) k g = ap (λ o. getD (o .lent) 0 []) (outcome-refused _ k g)
 refused-after words (Move.navigates d) k g = ap (λ o. getD (o .lent) 0 []) (outcome-refused _ k g)
 refused-after words (Move.goes δ room) k g = ap (λ o. getD (o .lent) 0 []) (outcome-refused _ k g)
+refused-after words (Move.drops f) k g = ap (λ o. getD (o .lent) 0 []) (outcome-refused _ k g)
 
 -- By whether a move is accepted.
 pub by-move {ℓ} : {C : Type ℓ} (words : List ℕ) (m : Move) →

@@ -9,14 +9,14 @@ use lib.Dec.{eqb}
 use lib.IntN.{ℤ, pos, negsuc, _+ℤ_}
 use lib.ListN.{length, replicate, length-replicate}
 use borrow.Author.Tests.{not-true, not-false, lt-ltb}
-use Rattle.rules.specs.Rows.{none, docAt, frameAt, parentAt, inRecord, isFrame}
+use Rattle.rules.specs.Rows.{none, parentAt, inRecord, isFrame}
 use Rattle.rules.specs.Steps.{position, steps, visible}
 use Rattle.rules.specs.Words.{capacity, rowsOf, written}
 use Rattle.rules.specs.Asks.{stretched}
 use Rattle.rules.specs.Saved.{parentOf, saved, loaded, fromSave?}
 use Rattle.rules.specs.Calls.{Call, Answer, Rung, short, unsound, absent, hidden, outside, noFrame, rootFrame, refusals, outcome, Given}
 use Rattle.laws.proofs.Tests.{clash, off}
-use Rattle.laws.proofs.Reflect.{Ref, ref-lt, ref-le, ref-eq, ref-or, ref-map, ref-any, sound-is}
+use Rattle.laws.proofs.Reflect.{Ref, ref-lt, ref-le, ref-eq, ref-or, ref-map, record-is, frame-is, sound-is}
 use Rattle.laws.proofs.Tree.{parent-of}
 use Rattle.laws.proofs.Words.{table-written, written-sound}
 use Rattle.laws.proofs.Loads.{in-room, from-save-is, from-save-in}
@@ -84,10 +84,7 @@ unsound-is words = ref-not (sound-is words)
 
 module _ (words : List ℕ) (d : ℕ) where
   there : Ref (inRecord (rowsOf words) d) ((i : ℕ) × StandsAt words d i)
-  unfolding inRecord
-  there =
-      ref-map (λ h. (h .0, (h .1, h .2))) (λ h. (h .0, h .1 .0, h .1 .1))
-      (ref-any (λ i. ref-eq (docAt (rowsOf words) i) d) (length (rowsOf words)))
+  there = ref-map (λ h. (h .0, (h .1, h .2))) (λ h. (h .0, h .1 .0, h .1 .1)) (record-is (rowsOf words) d)
 
   absent-is : Ref (absent words d) (Absent words d)
   absent-is = ref-map (λ f i h. f (i, h)) (λ f h. f (h .0) (h .1)) (ref-not there)
@@ -99,10 +96,7 @@ module _ (words : List ℕ) (d : ℕ) where
 -- A frame that is there has one parent.
 module _ (words : List ℕ) (f : ℕ) where
   framed : Ref (isFrame (rowsOf words) f) ((i : ℕ) × RowOf words f i)
-  unfolding isFrame
-  framed =
-      ref-map (λ h. (h .0, (h .1, h .2))) (λ h. (h .0, h .1 .0, h .1 .1))
-      (ref-any (λ i. ref-eq (frameAt (rowsOf words) i) f) (length (rowsOf words)))
+  framed = ref-map (λ h. (h .0, (h .1, h .2))) (λ h. (h .0, h .1 .0, h .1 .1)) (frame-is (rowsOf words) f)
 
   no-frame-is : Ref (noFrame words f) (NoFrame words f)
   no-frame-is = ref-map (λ g i h. g (i, h)) (λ g h. g (h .0) (h .1)) (ref-not framed)

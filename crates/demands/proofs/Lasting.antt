@@ -6,19 +6,21 @@ use native.Mathlib.Omega.{arith}
 use lib.IntN.{ℤ}
 use lib.ListN.{length}
 use Rattle.rules.specs.Rows.{Table, none}
-use Rattle.rules.specs.Moves.{opened, cleared, navigated, traversed}
+use Rattle.rules.specs.Moves.{opened, cleared, navigated, traversed, dropped}
 use Rattle.rules.specs.Words.{capacity, tableOf, written}
 use Rattle.rules.specs.Sound.{SoundTable, Sound}
 use Rattle.rules.specs.Calls.{refusals, NoneGiven}
 use Rattle.rules.specs.Runs.{Move, on, after}
+use Rattle.laws.proofs.Tests.{count-most}
 use Rattle.laws.proofs.Central.{at-length}
 use Rattle.laws.proofs.Append.{length-snoc}
 use Rattle.laws.proofs.Tree.{sound-of}
 use Rattle.laws.proofs.Removal.{SoundRows, sound-rows}
+use Rattle.laws.proofs.Drop.{staysBut, dropped-length, dropped-sound, dropped-some}
 use Rattle.laws.proofs.Travel.{walked-at}
 use Rattle.laws.proofs.Navigate.{arrival, sound-at, opened-sound, navigated-at, navigated-sound}
 use Rattle.laws.proofs.Words.{table-written}
-use Rattle.laws.proofs.Accepted.{open-relies, navigate-relies}
+use Rattle.laws.proofs.Accepted.{open-relies, navigate-relies, drop-relies}
 use Rattle.demands.specs.Record.{Words32}
 use Rattle.demands.proofs.Accepted.{go-relies, made}
 
@@ -87,10 +89,23 @@ module _ (words : List ℕ) (wide : Words32 words) (s : Sound words) where
         frame = lasting words wide s .frame;
       }
 
+  drop-lasting : (f : ℕ) → NoneGiven (refusals (on words (Move.drops f))) → Lasting (capacity words) (dropped t f)
+  drop-lasting f h =
+      let o = drop-relies words f h in
+      let few = count-most (staysBut f (t .rows)) (length (t .rows)) in
+      let n = dropped-length t f in
+      let b = s .table .s1 .fits in
+      record {
+        sound = fill (dropped-sound t f rows) (dropped-some t f rows (o .child) (s .table .s1 .some)) (omega arith);
+        doc = lasting words wide s .doc;
+        frame = lasting words wide s .frame;
+      }
+
   pub made-lasting : (m : Move) → NoneGiven (refusals (on words m)) → Lasting (capacity words) (made t m)
   made-lasting (Move.opens p) h = open-lasting p h
   made-lasting (Move.navigates d) h = navigate-lasting d h
   made-lasting (Move.goes δ room) h = go-lasting δ room h
+  made-lasting (Move.drops f) h = drop-lasting f h
 
   -- The table after an accepted move is the one made.
   pub table-after : (m : Move) → NoneGiven (refusals (on words m)) → after words m ≡ written words (made t m) → tableOf (after words m) ≡ made t m

@@ -1,5 +1,5 @@
--- What the customer buys, as theorems over the definitions of `rules`. The ends of the lines of thought: `p1-to-p12`, `standing`, `past-spared`,
--- `demand1`, `undo-each-other` and `demand2`, `noted` and `demand3`, `traverse-traverse`, and of the readings that look right
+-- What the customer buys, as theorems over the definitions of `rules`. The ends of the lines of thought: `p1-to-p12`, `drop-examples`, `standing`,
+-- `past-spared`, `demand1` and `smallest-first`, `undo-each-other` and `demand2`, `noted`, `demand3` and `without-drops`, `traverse-traverse`, and of the readings that look right
 -- `back-does-not-restore`, `back-restores-visible`, `own-future-not-enough`, `visible-futures-not-enough`, `back-is-not-to-latest-past`,
 -- `back-is-not-from-latest-of-all`, `back-is-not-to-first`, `back-is-backward`.
 pub mod Examples

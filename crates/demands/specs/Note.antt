@@ -1,14 +1,15 @@
 -- Demand 3: what is noted, what may follow, and what is then so.
-use Prim.Native.Nat.{ℕ, _≤_}
+use Prim.Native.Nat.{ℕ, _≤_, _<_}
 use mathlib.Core.List.{List, [], _∷_, _++_}
-use mathlib.Core.Bool.{So}
+use mathlib.Core.Bool.{false, So}
 use mathlib.Core.Path.{_≡_}
-use Rattle.rules.specs.Rows.{inRecord, isFrame, flag}
-use Rattle.rules.specs.Steps.{position, steps, visible}
+use lib.ListN.{length}
+use Rattle.rules.specs.Rows.{docAt, inRecord, isFrame, flag}
+use Rattle.rules.specs.Steps.{taken, position, steps, visible}
 use Rattle.rules.specs.Words.{rowsOf}
 use Rattle.rules.specs.Sound.{Sound}
 use Rattle.rules.specs.Calls.{Call, Answer, outcome}
-use Rattle.rules.specs.Runs.{Move, on, run}
+use Rattle.rules.specs.Runs.{Move, on, after, run}
 use Rattle.demands.specs.Record.{Words32, Accepted}
 
 -- "the position" of a record
@@ -20,24 +21,46 @@ pub record Noted (words : List ℕ) : Type 0 where
   pub position-asked : outcome (Call.Position words) .answer ≡ Answer.gives (positionIn words ∷ steps (rowsOf words) ∷ steps (rowsOf words) ∷ [])
   pub visible-asked : (d : ℕ) → So (inRecord (rowsOf words) d) → outcome (Call.Visible words d) .answer ≡ Answer.gives (flag (visible (rowsOf words) d) ∷ [])
 
--- "any opens, navigations and traversals [..], refused ones among them, with no accepted navigation begun from a position lower than the
--- noted one"
+-- Document d "is one of the noted position's taken steps".
+abbrev pub TakenStep : List ℕ → ℕ → Type 0
+TakenStep words d = (i : ℕ) × (i < length (rowsOf words)) × (docAt (rowsOf words) i ≡ d) × So (taken (rowsOf words) i)
+
+-- A move on these words removes the row of document d. A refused one removes none.
+abbrev pub Removes : List ℕ → Move → ℕ → Type 0
+Removes words m d = So (inRecord (rowsOf words) d) × (inRecord (rowsOf (after words m)) d ≡ false)
+
+-- "no accepted navigation begun from a position lower than the noted one"
 abbrev pub NoneBelow : List ℕ → List Move → Type 0
 NoneBelow words moves =
     (before rest : List Move) (d : ℕ) → moves ≡ before ++ Move.navigates d ∷ rest → Accepted (on (run words before) (Move.navigates d)) →
     positionIn words ≤ positionIn (run words before)
+
+-- "any opens, navigations and traversals [..], refused ones among them, with" these premises, and drops (document 02, L1).
+pub record MayFollow (words : List ℕ) (moves : List Move) : Type 0 where
+  pub none-below : NoneBelow words moves
+  -- "sequences in which no removed row is one of the noted position's taken steps"
+  pub taken-stay : (before rest : List Move) (f d : ℕ) → moves ≡ before ++ Move.drops f ∷ rest → Removes (run words before) (Move.drops f) d → TakenStep words d → ⊥
+
+-- "Each time the position is the noted one again, the visible documents that already existed at the note are exactly the noted ones": of the "noted documents
+-- still in the record".
+abbrev pub VisibleAgain : List ℕ → List Move → Type 0
+VisibleAgain words moves =
+    (before rest : List Move) → moves ≡ before ++ rest → positionIn (run words before) ≡ positionIn words →
+    (d : ℕ) → So (inRecord (rowsOf words) d) → So (inRecord (rowsOf (run words before)) d) → visible (rowsOf (run words before)) d ≡ visible (rowsOf words) d
 
 -- A move on these words hands out document number d: "Open [..] Answer: both numbers." "Navigate [..] Answer: the new number."
 abbrev pub HandsDocument : List ℕ → Move → ℕ → Type 0
 HandsDocument words (Move.opens p) d = (f : ℕ) × (outcome (on words (Move.opens p)) .answer ≡ Answer.gives (d ∷ f ∷ []))
 HandsDocument words (Move.navigates e) d = outcome (on words (Move.navigates e)) .answer ≡ Answer.gives (d ∷ [])
 HandsDocument words (Move.goes δ room) d = ⊥
+HandsDocument words (Move.drops f) d = ⊥
 
 -- A move on these words hands out frame number f.
 abbrev pub HandsFrame : List ℕ → Move → ℕ → Type 0
 HandsFrame words (Move.opens p) f = (d : ℕ) × (outcome (on words (Move.opens p)) .answer ≡ Answer.gives (d ∷ f ∷ []))
 HandsFrame words (Move.navigates e) f = ⊥
 HandsFrame words (Move.goes δ room) f = ⊥
+HandsFrame words (Move.drops g) f = ⊥
 
 -- "No [..] number handed out since was in the record at the note or was handed out earlier since"
 abbrev pub New : (List ℕ → Move → ℕ → Type 0) → (ℕ → Type 0) → List ℕ → List Move → Type 0
@@ -45,16 +68,18 @@ New Hands Was words moves =
     (before rest : List Move) (m : Move) (k : ℕ) → moves ≡ before ++ m ∷ rest → Hands (run words before) m k →
     (Was k → ⊥) × ((earlier between : List Move) (e : Move) → before ≡ earlier ++ e ∷ between → Hands (run words earlier) e k → ⊥)
 
--- What is so after moves from noted words on.
-pub record NoteKept (words : List ℕ) (moves : List Move) : Type 0 where
-  -- "Each time the position is the noted one again, the visible documents that already existed at the note are exactly the noted ones."
-  pub visible-again : (before rest : List Move) → moves ≡ before ++ rest → positionIn (run words before) ≡ positionIn words →
-      (d : ℕ) → So (inRecord (rowsOf words) d) → visible (rowsOf (run words before)) d ≡ visible (rowsOf words) d
-  -- "No document number handed out since was in the record at the note or was handed out earlier since"
-  pub new-documents : New HandsDocument (λ d. So (inRecord (rowsOf words) d)) words moves
-  -- "the same holds among frame numbers"
-  pub new-frames : New HandsFrame (λ f. So (isFrame (rowsOf words) f)) words moves
-
 -- "Note the position and the visible documents of a sound record. Then let any opens, navigations and traversals follow [..]"
-abbrev pub Demand3 : Type 0
-Demand3 = (words : List ℕ) (moves : List Move) → Words32 words → Sound words → NoneBelow words moves → NoteKept words moves
+pub record Demand3 : Type 0 where
+  pub visible-again : (words : List ℕ) (moves : List Move) → Words32 words → Sound words → MayFollow words moves → VisibleAgain words moves
+  -- "No document number handed out since was in the record at the note or was handed out earlier since", after any moves,
+  pub new-documents : (words : List ℕ) (moves : List Move) → Words32 words → Sound words → New HandsDocument (λ d. So (inRecord (rowsOf words) d)) words moves
+  -- "the same holds among frame numbers"
+  pub new-frames : (words : List ℕ) (moves : List Move) → Words32 words → Sound words → New HandsFrame (λ f. So (isFrame (rowsOf words) f)) words moves
+
+-- Where no drop is accepted, all that existed at the note is meant, in the record still or not.
+abbrev pub WithoutDrops : Type 0
+WithoutDrops =
+    (words : List ℕ) (moves : List Move) → Words32 words → Sound words → NoneBelow words moves →
+    ((before rest : List Move) (f : ℕ) → moves ≡ before ++ Move.drops f ∷ rest → Accepted (on (run words before) (Move.drops f)) → ⊥) →
+    (before rest : List Move) → moves ≡ before ++ rest → positionIn (run words before) ≡ positionIn words →
+    (d : ℕ) → So (inRecord (rowsOf words) d) → visible (rowsOf (run words before)) d ≡ visible (rowsOf words) d

@@ -20,5 +20,5 @@ pub record Standing : Type 0 where
   pub fresh : (words : List ℕ) → Words32 words → Accepted (Call.Fresh words) → Stands (left (Call.Fresh words))
   -- "Load fills a record [..] from bytes that Save would write for some sound record"
   pub load : (words bytes : List ℕ) → Words32 words → Bytes bytes → Accepted (Call.Load words bytes) → Stands (left (Call.Load words bytes))
-  -- Open, Navigate and Traverse, refused ones among them.
+  -- Open, Navigate, Traverse and Drop, refused ones among them.
   pub move : (words : List ℕ) → Stands words → (m : Move) → Stands (after words m)

@@ -1,22 +1,23 @@
 -- Drop: a frame goes with all beneath it, and the rest stays as it was. Assumes nothing.
 use Prim.Native.Nat.{ℕ, _+_, _≤_, _<_}
-use mathlib.Core.Path.{_≡_, sym, _∙_}
+use mathlib.Core.Path.{_≡_, sym, _∙_, subst}
 use mathlib.Core.List.{List}
 use mathlib.Core.Logic.{_≢_, ⊎-elim}
-use mathlib.Core.Bool.{Bool, not, _&&_, So}
+use mathlib.Core.Bool.{Bool, false, not, _&&_, So}
 use native.Mathlib.Omega.{arith}
 use lib.ListN.{length}
 use borrow.Author.Tests.{eqb-true, eq-eqb}
 use Rattle.rules.specs.Below.{count}
-use Rattle.rules.specs.Rows.{Row, Table, none, rowAt, inFrame}
+use Rattle.rules.specs.Rows.{Row, Table, none, rowAt, docAt, inRecord, inFrame}
 use Rattle.rules.specs.Steps.{taken, position}
 use Rattle.rules.specs.Moves.{without, dropped}
 use Rattle.rules.specs.Saved.{parentOf}
-use Rattle.laws.proofs.Tests.{count-in}
+use Rattle.laws.proofs.Tests.{clash, off, count-in}
 use Rattle.laws.proofs.Kept.{kept-row, kept-length}
-use Rattle.laws.proofs.Tree.{parent-of}
+use Rattle.laws.proofs.Tree.{distinct, parent-of, came}
+use Rattle.laws.proofs.Reflect.{record-is}
 use Rattle.laws.proofs.Climb.{gone-cases}
-use Rattle.laws.proofs.Removal.{SoundRows, Together, Removed, stays, stays-in, removed}
+use Rattle.laws.proofs.Removal.{SoundRows, Together, Removed, stays, stays-in, stays-up, removed}
 
 -- With one row of a frame all of it passes.
 pub frame-together : (rows : List Row) (f p : ℕ) → Together (inFrame rows f) rows p
@@ -58,3 +59,12 @@ module _ (t : Table) (f : ℕ) where
         (λ v. child (parent-of (t .rows) (s .tree .kin) 0 f some (eqb-true _ _ v) ∙ top))
         (λ j l h e. omega arith)) in
         omega (arith, dropped-length, count-in (staysBut f (t .rows)) (length (t .rows)) {i = 0} some stay)
+
+    -- The document of a row that goes is in the record no more.
+    pub dropped-out : (k : ℕ) → k < length (t .rows) → staysBut f (t .rows) k ≡ false → inRecord (dropped t f .rows) (docAt (t .rows) k) ≡ false
+    unfolding without
+    dropped-out k l goes =
+        off _ (λ h.
+        let o = record-is (dropped t f .rows) (docAt (t .rows) k) .0 h in
+        let c = came (staysBut f (t .rows)) (t .rows) (s .tree) (stays-up (inFrame (t .rows) f) (t .rows) (s .tree)) (o .0) (o .1) in
+        clash (subst (λ i. So (staysBut f (t .rows) i)) (distinct (s .tree) (c .0) k (c .1) l (sym (c .4 .d) ∙ o .2)) (c .2)) goes)

@@ -9,7 +9,7 @@ use lib.Dec.{leb, ltb, eqb}
 use lib.ListN.{length, getD}
 use borrow.Author.Tests.{lt-ltb, le-leb, eq-eqb, ltb-true, leb-true, eqb-true}
 use Rattle.rules.specs.Below.{someBelow, allBelow, count}
-use Rattle.rules.specs.Rows.{Row, Table, none, docAt, frameAt, parentAt, shownAt, isShown}
+use Rattle.rules.specs.Rows.{Row, Table, none, docAt, frameAt, parentAt, shownAt, isShown, inRecord, isFrame}
 use Rattle.rules.specs.Steps.{same, isStep, upcoming}
 use Rattle.rules.specs.Words.{capacity, tableOf}
 use Rattle.rules.specs.Sound.{S1, S2, S3, S4, S5, S6, S7, S8, s1?, s2?, s3?, s4?, s5?, s6?, s7?, s8?, SoundTable, soundTable?, Sound, sound?}
@@ -56,6 +56,15 @@ module _ {p : ℕ → Bool} {P : ℕ → Type 0} (r : (i : ℕ) → Ref (p i) (P
 
   pub ref-any : Ref (someBelow n p) ((i : ℕ) × (i < n) × P i)
   ref-any = (λ e. let k = some-out p n e in (k .0, k .1, r (k .0) .0 (k .2)), λ h. some-in p n (h .1) (r (h .0) .1 (h .2)))
+
+-- A document, and a frame, is in the record when a row has it.
+pub record-is : (rows : List Row) (d : ℕ) → Ref (inRecord rows d) ((i : ℕ) × (i < length rows) × (docAt rows i ≡ d))
+unfolding inRecord
+record-is rows d = ref-any (λ i. ref-eq (docAt rows i) d) (length rows)
+
+pub frame-is : (rows : List Row) (f : ℕ) → Ref (isFrame rows f) ((i : ℕ) × (i < length rows) × (frameAt rows i ≡ f))
+unfolding isFrame
+frame-is rows f = ref-any (λ i. ref-eq (frameAt rows i) f) (length rows)
 
 module _ (rows : List Row) where
   s1-is : (room : ℕ) → Ref (s1? room rows) (S1 room rows)

@@ -1,4 +1,4 @@
--- Document 01, "Examples": P1 to P12 and the small ones, each as a row of a table, and one statement over each table, by computation.
+-- Document 01, "Examples": P1 to P12 and the small ones, and what Drop does, each as a row of a table, and one statement over each table, by computation.
 -- The case `hiddenFuture` is 001's counterexample 2; counterexample 5 stands in `demands`, at `own-future-not-enough`. Assumes nothing.
 use Prim.Native.Nat.{ℕ, _+_, _-_, _*_, _≤_}
 use native.Mathlib.Nat.{zero-add}
@@ -116,6 +116,13 @@ nine = holding 8 (row 0 0 none 1 ∷ row 1 1 0 1 ∷ row 2 2 0 0 ∷ row 3 1 0 0
 -- Frame 2 lies in document 1, which is not shown, and has step 4 upcoming.
 abbrev underHidden : List ℕ
 underHidden = holding 8 (row 0 0 none 1 ∷ row 1 1 0 0 ∷ row 2 2 1 1 ∷ row 3 1 0 1 ∷ row 4 2 1 0 ∷ []) 5 3
+
+-- Documents 1, 3, 6 in frame 1, of which a is shown, and 2, 4, 5 in frame 2, of which b is: the steps are 3, 4, 5, 6.
+abbrev crossing : ℕ → ℕ → List ℕ
+crossing a b =
+    let one : ℕ → List ℕ = λ d. row d 1 0 (flag (eqb d a)) in
+    let two : ℕ → List ℕ = λ d. row d 2 0 (flag (eqb d b)) in
+    holding 7 (row 0 0 none 1 ∷ one 1 ∷ two 2 ∷ one 3 ∷ two 4 ∷ two 5 ∷ one 6 ∷ []) 7 3
 
 -- "P1. X: sound, position 1 of 2, visible 0,1,3,4."
 abbrev p1 : Case
@@ -318,6 +325,165 @@ unfolding someBelow allBelow count earliest latest tab gather inRecord place isF
     put tableOf wordsOf written soundTable? sound? refusals accepted ladder outcome run flatMap
 examples-hold = refl
 
+-- DROP (document 02, L1)
+
+-- X without frame 1: with 1 and 5 go 2 and 4, which are beneath 1; position 0 of 0, visible 0,3.
+abbrev d1 : Case
+d1 =
+    record {
+      start = X;
+      moves = Move.drops 1 ∷ [];
+      expected = record {
+        answers = ok 4 ∷ [];
+        stands = at 0 0;
+        documents = 0 ∷ 3 ∷ [];
+        shown = 0 ∷ 3 ∷ [];
+        sees = 0 ∷ 3 ∷ [];
+        changed = [];
+      };
+    }
+
+-- X without frame 2: 2 and 4 go, the position falls to 0; 5 is upcoming still.
+abbrev d2 : Case
+d2 =
+    record {
+      start = X;
+      moves = Move.drops 2 ∷ [];
+      expected = record {
+        answers = ok 2 ∷ [];
+        stands = at 0 1;
+        documents = 0 ∷ 1 ∷ 3 ∷ 5 ∷ [];
+        shown = 0 ∷ 1 ∷ 3 ∷ [];
+        sees = 0 ∷ 1 ∷ 3 ∷ [];
+        changed = [];
+      };
+    }
+
+-- The root frame, and frames that are in no row: X stays.
+abbrev d3 : Case
+d3 = record { start = X; moves = Move.drops 0 ∷ Move.drops 9 ∷ Move.drops 4 ∷ []; expected = asX (no 10 ∷ no 4 ∷ no 4 ∷ []) [] }
+
+-- X by +1: 5 is shown in frame 1, so the parent of frame 2, document 1, is hidden.
+abbrev d4 : Case
+d4 =
+    record {
+      start = X;
+      moves = forwardBy 1 ∷ Move.drops 2 ∷ [];
+      expected = record {
+        answers = ok 1 ∷ no 5 ∷ [];
+        stands = at 2 2;
+        documents = 0 ∷ 1 ∷ 2 ∷ 3 ∷ 4 ∷ 5 ∷ [];
+        shown = 0 ∷ 3 ∷ 4 ∷ 5 ∷ [];
+        sees = 0 ∷ 3 ∷ 5 ∷ [];
+        changed = [];
+      };
+    }
+
+-- X by +1 without frame 1: hidden rows go too, and the position falls by steps 5 and 4, though 4 is not visible.
+abbrev d5 : Case
+d5 =
+    record {
+      start = X;
+      moves = forwardBy 1 ∷ Move.drops 1 ∷ [];
+      expected = record {
+        answers = ok 1 ∷ ok 4 ∷ [];
+        stands = at 0 0;
+        documents = 0 ∷ 3 ∷ [];
+        shown = 0 ∷ 3 ∷ [];
+        sees = 0 ∷ 3 ∷ [];
+        changed = [];
+      };
+    }
+
+-- X by -1 without frame 2: its step is upcoming, so the position stays.
+abbrev d6 : Case
+d6 =
+    record {
+      start = X;
+      moves = backBy 1 ∷ Move.drops 2 ∷ [];
+      expected = record {
+        answers = ok 1 ∷ ok 2 ∷ [];
+        stands = at 0 1;
+        documents = 0 ∷ 1 ∷ 3 ∷ 5 ∷ [];
+        shown = 0 ∷ 1 ∷ 3 ∷ [];
+        sees = 0 ∷ 1 ∷ 3 ∷ [];
+        changed = [];
+      };
+    }
+
+-- Of steps 3 and 4 taken, 5 and 6 upcoming, those of frame 1 go, 3 and 6: position 1 of 2.
+abbrev d7 : Case
+d7 =
+    record {
+      start = crossing 3 4;
+      moves = Move.drops 1 ∷ [];
+      expected = record {
+        answers = ok 3 ∷ [];
+        stands = at 1 2;
+        documents = 0 ∷ 2 ∷ 4 ∷ 5 ∷ [];
+        shown = 0 ∷ 4 ∷ [];
+        sees = 0 ∷ 4 ∷ [];
+        changed = [];
+      };
+    }
+
+-- Open, drop, open: neither number comes back.
+abbrev d8 : Case
+d8 =
+    record {
+      start = fresh 8;
+      moves = Move.opens 0 ∷ Move.drops 1 ∷ Move.opens 0 ∷ [];
+      expected = record {
+        answers = Answer.gives (1 ∷ 1 ∷ []) ∷ ok 1 ∷ Answer.gives (2 ∷ 2 ∷ []) ∷ [];
+        stands = at 0 0;
+        documents = 0 ∷ 2 ∷ [];
+        shown = 0 ∷ 2 ∷ [];
+        sees = 0 ∷ 2 ∷ [];
+        changed = [];
+      };
+    }
+
+-- A drop on a full table makes room for an open.
+abbrev d9 : Case
+d9 =
+    record {
+      start = fresh 2;
+      moves = Move.opens 0 ∷ Move.opens 0 ∷ Move.drops 1 ∷ Move.opens 0 ∷ [];
+      expected = record {
+        answers = Answer.gives (1 ∷ 1 ∷ []) ∷ no 7 ∷ ok 1 ∷ Answer.gives (2 ∷ 2 ∷ []) ∷ [];
+        stands = at 0 0;
+        documents = 0 ∷ 2 ∷ [];
+        shown = 0 ∷ 2 ∷ [];
+        sees = 0 ∷ 2 ∷ [];
+        changed = [];
+      };
+    }
+
+-- A parent that is shown beneath a hidden document is not visible: frame 3 in document 3, frame 2 in document 2, which gave way to 0.
+abbrev d10 : Case
+d10 =
+    record {
+      start = fresh 8;
+      moves = Move.opens 0 ∷ Move.navigates 0 ∷ Move.opens 2 ∷ Move.opens 3 ∷ backBy 1 ∷ Move.drops 3 ∷ Move.drops 2 ∷ Move.drops 1 ∷ [];
+      expected = record {
+        answers = Answer.gives (1 ∷ 1 ∷ []) ∷ ok 2 ∷ Answer.gives (3 ∷ 2 ∷ []) ∷ Answer.gives (4 ∷ 3 ∷ []) ∷ ok 1 ∷ no 5 ∷ no 5 ∷ ok 1 ∷ [];
+        stands = at 0 1;
+        documents = 0 ∷ 2 ∷ 3 ∷ 4 ∷ [];
+        shown = 0 ∷ 3 ∷ 4 ∷ [];
+        sees = 0 ∷ [];
+        changed = [];
+      };
+    }
+
+abbrev pub drops : List Case
+drops = d1 ∷ d2 ∷ d3 ∷ d4 ∷ d5 ∷ d6 ∷ d7 ∷ d8 ∷ d9 ∷ d10 ∷ []
+
+pub drops-hold : map seen drops ≡ map (λ c. c .expected) drops
+unfolding someBelow allBelow count earliest latest tab gather inRecord place isFrame withFlags climb step reach position steps visible
+    opened gone without hide navigated show forward backTarget rowBefore back walked shownDoc changeRow changes parentOf
+    put tableOf wordsOf written soundTable? sound? refusals accepted ladder outcome run flatMap
+drops-hold = refl
+
 -- The small examples: a call and its whole outcome.
 pub record Small : Type 0 where
   pub call : Call
@@ -345,13 +511,6 @@ bytesOfX =
     ∷ 0 ∷ 0 ∷ 0 ∷ 1 ∷ 0 ∷ 0 ∷ 0 ∷ 5
     ∷ 0 ∷ 0 ∷ 0 ∷ 2 ∷ 0 ∷ 0 ∷ 0 ∷ 4
     ∷ 0 ∷ 0 ∷ 0 ∷ 3 ∷ []
-
--- Documents 1, 3, 6 in frame 1, of which a is shown, and 2, 4, 5 in frame 2, of which b is: the steps are 3, 4, 5, 6.
-abbrev crossing : ℕ → ℕ → List ℕ
-crossing a b =
-    let one : ℕ → List ℕ = λ d. row d 1 0 (flag (eqb d a)) in
-    let two : ℕ → List ℕ = λ d. row d 2 0 (flag (eqb d b)) in
-    holding 7 (row 0 0 none 1 ∷ one 1 ∷ two 2 ∷ one 3 ∷ two 4 ∷ two 5 ∷ one 6 ∷ []) 7 3
 
 -- Fresh with other next numbers.
 abbrev next : ℕ → ℕ → List ℕ
