@@ -1,8 +1,10 @@
-// Document 01's P1 to P12, run: every call's answer, and of the record at the end its position and the visible documents.
+// Document 01's P1 to P12 and the cases of Drop, run: every call's answer, and of the record at the end its position and the visible documents.
 use asks::Sight;
 use asks::Standing;
 use base::DocNo;
+use base::FrameNo;
 use base::Refusal;
+use drops::Dropped;
 use moves::Freshened;
 use moves::Opened;
 use navigates::Navigated;
@@ -71,6 +73,20 @@ fn navigate(words: &mut [u32], from: u32) {
             say(b"\n");
         }
         Navigated::Refused(r) => say_refused(r),
+    }
+}
+
+// Drop, told.
+fn take_out(words: &mut [u32], frame: u32) {
+    say(b"  drop ");
+    say_word(frame);
+    say(b": ");
+    match drops::drop_frame(words, FrameNo(frame)) {
+        Dropped::Rows(n) => {
+            say_number(n as u64);
+            say(b" rows went\n");
+        }
+        Dropped::Refused(r) => say_refused(r),
     }
 }
 
@@ -339,6 +355,84 @@ fn p12_instead() {
     stand(&words);
 }
 
+// X without frame 1, and with it frame 2, which lies in document 1; and without frame 2.
+fn d1_and_d2() {
+    say(b"D1\n");
+    let mut one = record_x();
+    take_out(&mut one, 1);
+    stand(&one);
+    say(b"D2\n");
+    let mut two = record_x();
+    take_out(&mut two, 2);
+    stand(&two);
+}
+
+// The root frame, and frames that are in no row.
+fn d3() {
+    say(b"D3\n");
+    let mut words = record_x();
+    take_out(&mut words, 0);
+    take_out(&mut words, 9);
+    take_out(&mut words, 4);
+    stand(&words);
+}
+
+// X by +1: frame 2 lies in a hidden document; frame 1 goes with what is hidden in it.
+fn d4_and_d5() {
+    say(b"D4\n");
+    let mut words = record_x();
+    go(&mut words, 1);
+    take_out(&mut words, 2);
+    stand(&words);
+    say(b"D5\n");
+    take_out(&mut words, 1);
+    stand(&words);
+}
+
+// X by -1: the step of frame 2 is upcoming.
+fn d6() {
+    say(b"D6\n");
+    let mut words = record_x();
+    go(&mut words, -1);
+    take_out(&mut words, 2);
+    stand(&words);
+}
+
+// Open, drop, open: neither number comes back; on a full table a drop makes room.
+fn d8_and_d9() {
+    say(b"D8\n");
+    let mut words = [7u32; 35];
+    fresh(&mut words);
+    open(&mut words, 0);
+    take_out(&mut words, 1);
+    open(&mut words, 0);
+    stand(&words);
+    say(b"D9\n");
+    let mut few = [7u32; 11];
+    fresh(&mut few);
+    open(&mut few, 0);
+    open(&mut few, 0);
+    take_out(&mut few, 1);
+    open(&mut few, 0);
+    stand(&few);
+}
+
+// A frame in a shown document beneath a hidden one.
+fn d10() {
+    say(b"D10\n");
+    let mut words = [7u32; 35];
+    fresh(&mut words);
+    open(&mut words, 0);
+    navigate(&mut words, 0);
+    open(&mut words, 2);
+    open(&mut words, 3);
+    go(&mut words, -1);
+    take_out(&mut words, 3);
+    take_out(&mut words, 2);
+    take_out(&mut words, 1);
+    stand(&words);
+}
+
 // Record of 6 words, and of 7.
 fn small_records() {
     say(b"6 words\n");
@@ -362,5 +456,11 @@ fn main() {
     p10_and_p11();
     p12();
     p12_instead();
+    d1_and_d2();
+    d3();
+    d4_and_d5();
+    d6();
+    d8_and_d9();
+    d10();
     small_records();
 }
