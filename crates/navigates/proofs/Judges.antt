@@ -1,5 +1,5 @@
 -- When Navigate is refused, and its outcome. Assumes nothing.
-use Prim.Native.Nat.{ℕ, suc, _≤_, _<_}
+use Prim.Native.Nat.{ℕ, _≤_, _<_}
 use mathlib.Core.Bool.{Bool, true, false, not, _&&_, So, and-eq-true-iff}
 use mathlib.Core.List.{List, [], _∷_}
 use mathlib.Core.Logic.{inl, inr}
@@ -18,22 +18,23 @@ use Rattle.rules.specs.Moves.{without, cleared, navigated}
 use Rattle.rules.specs.Words.{capacity, tableOf, rowsOf, written}
 use Rattle.rules.specs.Calls.{Call, Answer, full, refusals, accepted, outcome, Given, NoneGiven}
 use Rattle.laws.proofs.Calls.{outcome-accepted, outcome-refused}
-use Rattle.laws.proofs.Tests.{test, clash, off, same-tests, some-in, some-out, count-in, count-same, count-split, count-all, count-most, count-misses}
+use Rattle.laws.proofs.Tests.{test, clash, off, same-tests, some-in, some-out, count-in, count-same, count-split, count-all, count-misses}
 use Rattle.laws.proofs.Kept.{kept-length}
 use Rattle.laws.proofs.Climb.{gone-self}
-use Rattle.laws.proofs.Removal.{stays, stays-in, gone-later}
+use Rattle.laws.proofs.Removal.{stays}
 use Rattle.sound.specs.Check.{Settles}
 use Rattle.sound.specs.declared.Check.the-variants.{Sound, No}
 use Rattle.sound.specs.Survey.{surveyOf}
 use Rattle.sound.specs.declared.Survey.{Survey}
 use Rattle.sound.specs.declared.Survey.the-variants.{No as Survey·No}
 use Rattle.sound.proofs.Checks.{survey-given}
+use Rattle.packs.proofs.Stays.{without-fewer, early-stays}
 use Rattle.navigates.specs.Answers.{roomRungs}
 
 -- WHEN NO ROW IS LEFT
 
 module _ (rows : List Row) where
-  pub none-upcoming : steps rows ≡ position rows → (v : ℕ) → v < length rows → upcoming rows v ≡ false
+  none-upcoming : steps rows ≡ position rows → (v : ℕ) → v < length rows → upcoming rows v ≡ false
   unfolding steps position
   none-upcoming e v l =
       off _ (λ h.
@@ -43,7 +44,7 @@ module _ (rows : List Row) where
       let i = count-in (λ k. not (reached rows k) && isStep rows k) (length rows) l (simp and-eq-true-iff (t .1, t .0)) in
       omega (arith, count-split (reached rows) (isStep rows) (length rows)))
 
-  pub some-upcoming : (steps rows ≡ position rows → ⊥) → So (someBelow (length rows) (upcoming rows))
+  some-upcoming : (steps rows ≡ position rows → ⊥) → So (someBelow (length rows) (upcoming rows))
   unfolding steps position
   some-upcoming ne =
       test (someBelow (length rows) (upcoming rows)) (λ t. t) (λ f.
@@ -52,14 +53,12 @@ module _ (rows : List Row) where
       (λ s. simp and-eq-true-iff (s, test (reached rows k) (λ r. r) (λ o. absurd (clash (some-in (upcoming rows) (length rows) l (simp and-eq-true-iff (s, rw o refl))) f))))
       (λ h. (simp and-eq-true-iff at h) .0)))))
 
-  pub cleared-length : length (cleared rows) ≡ count (stays (upcoming rows) rows) (length rows)
+  cleared-length : length (cleared rows) ≡ count (stays (upcoming rows) rows) (length rows)
   unfolding without
   cleared-length = kept-length (stays (upcoming rows) rows) rows
 
   all-stay : steps rows ≡ position rows → length (cleared rows) ≡ length rows
-  all-stay e =
-      cleared-length ∙ count-all _ (length rows) (λ k l. stays-in (upcoming rows) rows k (λ g.
-      let v = gone-later (upcoming rows) rows (suc k) k (omega arith) g in clash (v .2) (none-upcoming e (v .0) (omega arith))))
+  all-stay e = cleared-length ∙ count-all _ (length rows) (early-stays (upcoming rows) rows (length rows) (none-upcoming e))
 
   fewer-stay : (steps rows ≡ position rows → ⊥) → length (cleared rows) < length rows
   fewer-stay ne =
@@ -84,7 +83,7 @@ full-is words n c p s en ec fits ep es =
 
 pub room-left-over : (words : List ℕ) (n c : ℕ) → n ≡ length (rowsOf words) → c ≡ capacity words → n < c → false ≡ full words (cleared (rowsOf words))
 room-left-over words n c en ec l =
-    sym (lt-leb (capacity words) (length (cleared (rowsOf words))) (omega (arith, cleared-length (rowsOf words), count-most (stays (upcoming (rowsOf words)) (rowsOf words)) (length (rowsOf words)))))
+    sym (lt-leb (capacity words) (length (cleared (rowsOf words))) (omega (arith, without-fewer (upcoming (rowsOf words)) (rowsOf words))))
 
 pub full-counted : (words : List ℕ) (n c p s : ℕ) → n ≡ length (rowsOf words) → c ≡ capacity words → length (rowsOf words) ≤ capacity words → c ≤ n → p ≡ position (rowsOf words) → s ≡ steps (rowsOf words) →
     eqb s p ≡ full words (cleared (rowsOf words))

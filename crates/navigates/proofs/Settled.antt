@@ -16,7 +16,7 @@ use Rattle.rules.specs.Rows.{Row, none, noRow, rowAt, docAt, frameAt, parentAt,
 use Rattle.rules.specs.Steps.{upcoming}
 use Rattle.rules.specs.Moves.{without, cleared, hide, navigated}
 use Rattle.rules.specs.Words.{put, capacity, tableOf, rowsOf, rowWords, written}
-use Rattle.laws.proofs.Tests.{test, some-in, gather-from, count-most}
+use Rattle.laws.proofs.Tests.{test, some-in, gather-from}
 use Rattle.laws.proofs.Flags.{flag-back, flags-length, flags-row}
 use Rattle.laws.proofs.Tree.{distinct, place-is, Alike, alike}
 use Rattle.laws.proofs.Removal.{SoundRows, sound-rows, stays, cleared-removed}
@@ -25,9 +25,9 @@ use Rattle.laws.proofs.Accepted.{Navigates}
 use Rattle.reads.specs.Within.{Before, Within}
 use Rattle.packs.specs.Packing.{Over}
 use Rattle.packs.proofs.Over.{over-length, over-capacity, over-fits, over-row, over-more, over-word}
+use Rattle.packs.proofs.Stays.{without-fewer}
 use Rattle.packs.proofs.Ended.{ended-is}
 use Rattle.navigates.specs.Packing.{settled}
-use Rattle.navigates.proofs.Judges.{cleared-length}
 
 -- ONE WORD WRITTEN ANEW
 
@@ -81,9 +81,6 @@ module _ (old : List ℕ) (d : ℕ) (f : Navigates old d) (word : tableOf old .n
   fits : length rows ≤ capacity old
   fits = f .sound .table .s1 .fits
 
-  clear-fewer : length c ≤ length rows
-  clear-fewer = omega (arith, cleared-length rows, count-most (stays (upcoming rows) rows) (length rows))
-
   -- A cleared row with document d is d's row.
   the-row : (q : ℕ) → q < length c → docAt c q ≡ d → rowAt c q ≡ rowAt rows (place rows d)
   unfolding without
@@ -93,7 +90,7 @@ module _ (old : List ℕ) (d : ℕ) (f : Navigates old d) (word : tableOf old .n
 
   module _ (k : ℕ) (packed : List ℕ) (is : Over c old k packed) where
     few : k ≤ length rows
-    few = omega (arith, is .count-is, clear-fewer)
+    few = omega (arith, is .count-is, without-fewer (upcoming rows) rows)
 
     packed-fits : length (rowsOf packed) ≤ capacity packed
     packed-fits = over-fits c old k packed is fits

@@ -1,5 +1,5 @@
 -- Which rows stay where those that pass a test go with all beneath them, as the rows kept so far tell. Assumes nothing.
-use Prim.Native.Nat.{ℕ, suc, _<_}
+use Prim.Native.Nat.{ℕ, suc, _≤_, _<_}
 use mathlib.Core.Bool.{Bool, false, not, _&&_, So, and-eq-true-iff}
 use mathlib.Core.List.{List}
 use mathlib.Core.Logic.{⊎-elim}
@@ -10,7 +10,9 @@ use lib.ListN.{length}
 use borrow.Author.Tests.{eqb-true, eq-eqb, not-true}
 use Rattle.rules.specs.Below.{someBelow}
 use Rattle.rules.specs.Rows.{Row, none, docAt, parentAt, isDoc}
-use Rattle.laws.proofs.Tests.{clash, off, same-tests, or-left, or-right, or-cases, some-in, some-out, count-in, nth}
+use Rattle.rules.specs.Moves.{without}
+use Rattle.laws.proofs.Tests.{clash, off, same-tests, or-left, or-right, or-cases, some-in, some-out, count-in, count-most, nth}
+use Rattle.laws.proofs.Kept.{kept-length}
 use Rattle.laws.proofs.Tree.{TreeOf, distinct, proper}
 use Rattle.laws.proofs.Climb.{gone-self, gone-cases}
 use Rattle.laws.proofs.Removal.{stays, stays-in, stays-up, gone-later}
@@ -18,6 +20,11 @@ use Rattle.packs.specs.Packing.{parentKept}
 use Rattle.packs.proofs.Packed.{Sees}
 
 module _ (q : ℕ → Bool) (rows : List Row) where
+  -- No more rows are left than there were.
+  pub without-fewer : length (without q rows) ≤ length rows
+  unfolding without
+  without-fewer = omega (arith, kept-length (stays q rows) rows, count-most (stays q rows) (length rows))
+
   -- A row before every row that passes stays.
   pub early-stays : (u : ℕ) → ((v : ℕ) → v < u → q v ≡ false) → (i : ℕ) → i < u → So (stays q rows i)
   early-stays u none-before i l =
