@@ -1,4 +1,4 @@
--- What Navigate removes is what 001 deletes: the joint session future and all beneath it. Assumes nothing.
+-- What Navigate and Drop remove is what 001 deletes: the joint session future, or a frame, and all beneath it. Assumes nothing.
 use Prim.Native.Nat.{ℕ, zero, suc, _≤_, _<_}
 use mathlib.Core.Path.{_≡_, refl, sym, ap, _∙_, subst}
 use mathlib.Core.List.{List}
@@ -8,20 +8,20 @@ use native.Mathlib.Nat.{not-suc-le-zero}
 use native.Mathlib.Omega.{arith}
 use lib.Dec.{eqb}
 use lib.ListN.{length}
-use borrow.Author.Tests.{not-true}
+use borrow.Author.Tests.{eqb-true, eq-eqb, not-true}
 use Rattle.rules.specs.Below.{count}
-use Rattle.rules.specs.Rows.{Row, noRow, rowAt, docAt, frameAt, parentAt, isShown}
+use Rattle.rules.specs.Rows.{Row, noRow, rowAt, docAt, frameAt, parentAt, isShown, inFrame}
 use Rattle.rules.specs.Steps.{isStep, reached, upcoming, position}
 use Rattle.rules.specs.Moves.{gone, without, cleared}
 use Rattle.laws.proofs.Tests.{clash, off, count-in, count-mono, by-lt, gather-from}
 use Rattle.laws.proofs.Frames.{due-in, due-out}
 use Rattle.laws.proofs.Central.{reached-is}
 use Rattle.laws.proofs.Kept.{kept, kept-row, kept-length}
-use Rattle.laws.proofs.Tree.{distinct, proper, Alike, alike}
+use Rattle.laws.proofs.Tree.{TreeOf, distinct, proper, Alike, alike}
 use Rattle.laws.proofs.Climb.{gone-self, gone-child, gone-cases}
 use Rattle.laws.proofs.Removal.{SoundRows, stays}
 use Rattle.demands.specs.Model.{Star, JointFuture, Remains, deleting, Same}
-use Rattle.demands.specs.Follows.{ofRows}
+use Rattle.demands.specs.Follows.{ofRows, OfFrame}
 use Rattle.demands.proofs.Places.{future-in, future-out}
 use Rattle.demands.proofs.Traverses.{now-history}
 
@@ -47,37 +47,40 @@ module _ (rows : List Row) {a b : ℕ} (s : SoundRows rows a b) where
     λ f. let i = f .2 .0 in (i .1, i .3, i .5, upcoming-of d f (i .1) (i .3) (i .5)),
   )
 
+-- Documents whose rows are those that pass q.
+module _ (rows : List Row) {a b : ℕ} (t : TreeOf rows a b) (q : ℕ → Bool) (Out : ℕ → Type 0) (into : (i : ℕ) → i < length rows → So (q i) → Out (docAt rows i))
+    (from : (d : ℕ) → Out d → (i : ℕ) → i < length rows → docAt rows i ≡ d → So (q i)) where
   abbrev Deleted : ℕ → Type 0
-  Deleted e = (d : ℕ) × JointFuture (ofRows rows) d × Star (ofRows rows .child) d e
+  Deleted e = (d : ℕ) × Out d × Star (ofRows rows .child) d e
 
-  gone-out : (n i : ℕ) → i < n → i < length rows → So (gone (upcoming rows) rows i) → Deleted (docAt rows i)
+  gone-out : (n i : ℕ) → i < n → i < length rows → So (gone q rows i) → Deleted (docAt rows i)
   gone-out zero i l m g = absurd (not-suc-le-zero l)
   gone-out (suc n) i l m g =
-      gone-cases (upcoming rows) rows i g (λ u. (docAt rows i, future i m u, Star.here)) (λ j c h e.
+      gone-cases q rows i g (λ u. (docAt rows i, into i m u, Star.here)) (λ j c h e.
       let r = gone-out n j (omega arith) (omega arith) h in
       (r .0, r .1, Star.then (r .2) ((j, omega arith, refl), (i, m, refl, sym e))))
 
-  gone-in : (d : ℕ) → JointFuture (ofRows rows) d → {e : ℕ} → Star (ofRows rows .child) d e → (i : ℕ) → i < length rows → docAt rows i ≡ e → So (gone (upcoming rows) rows i)
-  gone-in d f Star.here i l e = gone-self (upcoming rows) rows i (upcoming-of d f i l e)
-  gone-in d f (Star.then q c) i l e =
+  gone-in : (d : ℕ) → Out d → {e : ℕ} → Star (ofRows rows .child) d e → (i : ℕ) → i < length rows → docAt rows i ≡ e → So (gone q rows i)
+  gone-in d f Star.here i l e = gone-self q rows i (from d f i l e)
+  gone-in d f (Star.then p c) i l e =
       let x = c .0 in
-      let g = gone-in d f q (x .0) (x .1) (x .2) in
-      let p : parentAt rows i ≡ docAt rows (x .0) = ap (parentAt rows) (distinct (s .tree) i (c .1 .0) l (c .1 .1) (e ∙ sym (c .1 .2))) ∙ c .1 .3 ∙ sym (x .2) in
-      ⊎-elim (λ z. absurd (proper (s .tree) (x .0) (x .1) (sym p ∙ z)))
-      (λ r. gone-child (upcoming rows) rows (s .tree) (r .1) l (subst (λ k. So (gone (upcoming rows) rows k)) (sym (distinct (s .tree) (r .0) (x .0) (omega arith) (x .1) (r .2 ∙ p))) g) (r .2))
-      (s .tree .placed i l)
+      let g = gone-in d f p (x .0) (x .1) (x .2) in
+      let u : parentAt rows i ≡ docAt rows (x .0) = ap (parentAt rows) (distinct t i (c .1 .0) l (c .1 .1) (e ∙ sym (c .1 .2))) ∙ c .1 .3 ∙ sym (x .2) in
+      ⊎-elim (λ z. absurd (proper t (x .0) (x .1) (sym u ∙ z)))
+      (λ r. gone-child q rows t (r .1) l (subst (λ k. So (gone q rows k)) (sym (distinct t (r .0) (x .0) (omega arith) (x .1) (r .2 ∙ u))) g) (r .2))
+      (t .placed i l)
 
   abbrev keep : ℕ → Bool
-  keep = stays (upcoming rows) rows
+  keep = stays q rows
 
   abbrev Stays : ℕ → Type 0
-  Stays = Remains (ofRows rows) (JointFuture (ofRows rows))
+  Stays = Remains (ofRows rows) Out
 
   remains-in : (k : ℕ) → k < length rows → So (keep k) → Stays (docAt rows k)
   remains-in k l h = ((k, l, refl), λ x. clash (gone-in (x .0) (x .1) (x .2) k l refl) (not-true _ h))
 
   remains-out : (e : ℕ) → Stays e → (k : ℕ) → k < length rows → docAt rows k ≡ e → So (keep k)
-  remains-out e x k l q = rw (off (gone (upcoming rows) rows k) (λ g. x .1 (subst Deleted q (gone-out (suc k) k (omega arith) l g)))) refl
+  remains-out e x k l y = rw (off (gone q rows k) (λ g. x .1 (subst Deleted y (gone-out (suc k) k (omega arith) l g)))) refl
 
   abbrev L : List Row
   L = kept keep rows
@@ -93,8 +96,8 @@ module _ (rows : List Row) {a b : ℕ} (s : SoundRows rows a b) where
       let r = gather-from keep (rowAt rows) (length rows) i noRow l in
       (r .0, r .1, r .2, r .3, alike (r .4), ap (λ x. eqb (x .shown) 1) (r .4))
 
-  -- Patch 4, its first half.
-  pub deleted-model : Same (deleting (ofRows rows) (JointFuture (ofRows rows))) (ofRows (cleared rows))
+  -- What is left of the rows is what 001 leaves of the history.
+  pub deleted-model : Same (deleting (ofRows rows) Out) (ofRows (without q rows))
   unfolding without
   deleted-model =
       record {
@@ -146,3 +149,15 @@ module _ (rows : List Row) {a b : ℕ} (s : SoundRows rows a b) where
     where
       to-D : (d : ℕ) → Stays d → (i : ℕ) × (i < length L) × (docAt L i ≡ d)
       to-D d x = let k = x .0 in let p = put (k .0) (k .1) (remains-out d x (k .0) (k .1) (k .2)) in (count keep (k .0), p .0, p .1 .d ∙ k .2)
+
+module _ (rows : List Row) {a b : ℕ} (s : SoundRows rows a b) where
+  -- Patch 4, its first half.
+  pub cleared-model : Same (deleting (ofRows rows) (JointFuture (ofRows rows))) (ofRows (cleared rows))
+  cleared-model = deleted-model rows (s .tree) (upcoming rows) (JointFuture (ofRows rows)) (future rows s) (upcoming-of rows s)
+
+  -- A frame is taken out.
+  pub without-frame : (f : ℕ) → Same (deleting (ofRows rows) (OfFrame rows f)) (ofRows (without (inFrame rows f) rows))
+  without-frame f =
+      deleted-model rows (s .tree) (inFrame rows f) (OfFrame rows f)
+      (λ i l v. (i, l, refl, eqb-true _ _ v))
+      (λ d x i l e. eq-eqb _ _ (ap (frameAt rows) (distinct (s .tree) i (x .0) l (x .1) (e ∙ sym (x .2))) ∙ x .3))

@@ -9,15 +9,18 @@ use Rattle.rules.specs.Rows.{Table}
 use Rattle.rules.specs.Steps.{position, steps}
 use Rattle.rules.specs.Words.{tableOf}
 use Rattle.rules.specs.Sound.{Sound}
+use Rattle.rules.specs.Saved.{parentOf}
 use Rattle.rules.specs.Calls.{Call}
 use Rattle.rules.specs.Runs.{Move, on, after}
 use Rattle.laws.proofs.Tests.{clash}
+use Rattle.laws.proofs.Tree.{parent-of}
+use Rattle.laws.proofs.Climb.{sees-out}
 use Rattle.laws.proofs.Removal.{SoundRows}
-use Rattle.laws.proofs.Accepted.{navigate-relies}
+use Rattle.laws.proofs.Accepted.{navigate-relies, drop-relies}
 use Rattle.demands.specs.Record.{Words32, Accepted}
 use Rattle.demands.specs.Refuses.{lines, HoldsIn, Applies, Absent, Hidden, Beyond}
-use Rattle.demands.specs.Model.{History, navigating, Same, Traverses}
-use Rattle.demands.specs.Follows.{ofRows, historyOf, FollowsModel, Demand2}
+use Rattle.demands.specs.Model.{History, deleting, navigating, Same, Traverses}
+use Rattle.demands.specs.Follows.{ofRows, historyOf, OfFrame, FollowsModel, Demand2}
 use Rattle.demands.proofs.Accepted.{accepted-none, accepted-after, go-relies}
 use Rattle.demands.proofs.Lasting.{lasting, lasting-rows, table-after}
 use Rattle.demands.proofs.Demand1.{first-holds, demand1, outside-is}
@@ -25,7 +28,7 @@ use Rattle.demands.proofs.Saving.{undo-each-other}
 use Rattle.demands.proofs.Traverses.{traversed-inside, walk-model, theorem-1}
 use Rattle.demands.proofs.Shape.{is-history, well-formed, one-root}
 use Rattle.demands.proofs.Active.{visible-active}
-use Rattle.demands.proofs.Deleted.{upcoming-future}
+use Rattle.demands.proofs.Deleted.{upcoming-future, without-frame}
 use Rattle.demands.proofs.Navigates.{navigate-model}
 
 -- A line with another number is passed over.
@@ -76,6 +79,12 @@ module _ (words : List ℕ) (wide : Words32 words) (s : Sound words) where
       let e = table-after words wide s (Move.goes δ room) n (accepted-after words (Move.goes δ room) n) in
       subst (λ (u : Table). Traverses δ (historyOf words) K ↔ Same (ofRows (u .rows)) K) (sym e) (walk-model (t .rows) rows δ (o .inside) K)
 
+  dropped-model : (f : ℕ) → Accepted (on words (Move.drops f)) → Same (deleting (historyOf words) (OfFrame (t .rows) f)) (historyOf (after words (Move.drops f)))
+  dropped-model f a =
+      let n = accepted-none _ a in
+      let e = table-after words wide s (Move.drops f) n (accepted-after words (Move.drops f) n) in
+      subst (λ (u : Table). Same (deleting (historyOf words) (OfFrame (t .rows) f)) (ofRows (u .rows))) (sym e) (without-frame (t .rows) rows f)
+
   follows-model : FollowsModel words
   follows-model =
       record {
@@ -90,6 +99,16 @@ module _ (words : List ℕ) (wide : Words32 words) (s : Sound words) where
           navigated-model d a,
         );
         traverse = traversed-model;
+        drop = λ f a.
+            let o = drop-relies words f (accepted-none _ a) in
+            let v = sees-out (t .rows) (parentOf (t .rows) f) (o .seen) in (
+              (
+                parentOf (t .rows) f,
+                visible-active (t .rows) (rows .tree) (parentOf (t .rows) f) .0 (o .seen),
+                λ d x. ((v .0, v .1, v .2), (x .0, x .1, x .2, sym (parent-of (t .rows) (rows .tree .kin) (x .0) f (x .1) (x .3)))),
+              ),
+              dropped-model f a,
+            );
         theorem-1 = theorem-1 (t .rows) rows;
         absent = λ d e x. says-absent words d (first-holds 4 _ (demand1 _ .exactly 4 .0 e)) (x .0) (x .1, x .2);
         hidden = λ d e x. clash (visible-active (t .rows) (rows .tree) d .1 x) (says-hidden words d (first-holds 5 _ (demand1 _ .exactly 5 .0 e)) .1);

@@ -1,7 +1,7 @@
 -- What the customer buys, as theorems over the definitions of `rules`. The ends of the lines of thought: `p1-to-p12`, `drop-examples`, `standing`,
--- `past-spared`, `demand1` and `smallest-first`, `undo-each-other` and `demand2`, `noted`, `demand3` and `without-drops`, `traverse-traverse`, and of the readings that look right
--- `back-does-not-restore`, `back-restores-visible`, `own-future-not-enough`, `visible-futures-not-enough`, `back-is-not-to-latest-past`,
--- `back-is-not-from-latest-of-all`, `back-is-not-to-first`, `back-is-backward`.
+-- `past-spared`, `demand1` and `smallest-first`, `undo-each-other` and `demand2`, `noted`, `demand3` and `without-drops`, `traverse-traverse`, and of
+-- the readings that look right `back-does-not-restore`, `back-restores-visible`, `own-future-not-enough`, `visible-futures-not-enough`,
+-- `back-is-not-to-latest-past`, `back-is-not-from-latest-of-all`, `back-is-not-to-first`, `back-is-backward`, `taken-may-not-go`, `gone-not-as-noted`.
 pub mod Examples
 pub mod Demand1
 pub mod Accepted

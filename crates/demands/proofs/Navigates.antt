@@ -20,7 +20,7 @@ use Rattle.laws.proofs.Navigate.{stayed}
 use Rattle.demands.specs.Model.{History, replacing, navigating, Same}
 use Rattle.demands.specs.Follows.{ofPlaces, ofRows}
 use Rattle.demands.proofs.Histories.{same-trans}
-use Rattle.demands.proofs.Deleted.{deleted-model}
+use Rattle.demands.proofs.Deleted.{cleared-model}
 
 -- In the same histories replacing is the same.
 replacing-same : {H K : History} → Same H K → (d new : ℕ) → Same (replacing H d new) (replacing K d new)
@@ -158,7 +158,7 @@ module _ (t : Table) (s : SoundRows (t .rows) (t .nextDoc) (t .nextFrame)) (unus
       let m = length c in
       let a = alike {l = c} {m = rows} {i = k .0} {k = place rows d} (k .2) in
       let new = navigated t d .rows in
-      same-trans (replacing-same (deleted-model rows s) d (t .nextDoc))
+      same-trans (replacing-same (cleared-model rows s) d (t .nextDoc))
       (subst (λ n. Same (replacing (ofRows c) d (t .nextDoc)) (ofPlaces n (docAt new) (frameAt new) (parentAt new) (isShown new))) (sym longer)
       (replaced m (docAt c) (frameAt c) (parentAt c) (isShown c) (docAt new) (frameAt new) (parentAt new) (isShown new) (t .nextDoc) d (k .0) (distinct tr) (k .1) (ap (λ y. y .doc) (k .2) ∙ k .3)
       (λ j l e. ⊎-elim (λ q. unused (sym e ∙ q)) (λ r. let z = tr .below (r .0) (omega arith) in omega (arith, r .2)) (tr .placed j l))

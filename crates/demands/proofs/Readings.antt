@@ -1,7 +1,7 @@
 -- Readings that look right are false, each on a record that is computed. Assumes nothing.
 use Prim.Native.Nat.{ℕ, _-_, _≤_, _<_}
-use mathlib.Core.Bool.{Bool, So, false, not, _&&_, and-eq-true-iff}
-use mathlib.Core.List.{List, [], _∷_, flatMap}
+use mathlib.Core.Bool.{Bool, So, true, false, not, _&&_, _||_, false≢true, and-eq-true-iff}
+use mathlib.Core.List.{List, [], _∷_, _++_, flatMap}
 use mathlib.Core.Logic.{inr}
 use mathlib.Core.Path.{_≡_, refl, ap, subst, sym, _∙_}
 use native.Mathlib.Omega.{arith}
@@ -11,12 +11,14 @@ use lib.ListN.{length, getD, replicate, List·getD-eq-default}
 use borrow.Author.Tests.{eqb-true, eq-eqb, leb-true, le-leb, le-ltb, not-true}
 use Rattle.rules.specs.Below.{someBelow, allBelow, count, earliest, latest, tab, gather}
 use Rattle.rules.specs.Rows.{Row, Table, none, docAt, frameAt, isShown, inRecord, place, isFrame, withFlags, climb}
-use Rattle.rules.specs.Steps.{step, reach, position, steps, visible}
-use Rattle.rules.specs.Moves.{gone, without, hide, navigated, show, backTarget, rowBefore, back, walked, shownDoc, changeRow, changes}
-use Rattle.rules.specs.Words.{put, tableOf, wordsOf, written}
+use Rattle.rules.specs.Steps.{step, reach, taken, position, steps, visible}
+use Rattle.rules.specs.Moves.{gone, without, hide, navigated, show, forward, backTarget, rowBefore, back, walked, shownDoc, changeRow, changes}
+use Rattle.rules.specs.Words.{put, tableOf, rowsOf, wordsOf, written}
 use Rattle.rules.specs.Sound.{soundTable?, sound?, Sound}
+use Rattle.rules.specs.Saved.{parentOf}
 use Rattle.rules.specs.Calls.{outside, refusals, accepted, ladder, outcome}
-use Rattle.laws.proofs.Tests.{clash, by-lt, all-out}
+use Rattle.rules.specs.Runs.{Move, run}
+use Rattle.laws.proofs.Tests.{clash, or-right, by-lt, all-out}
 use Rattle.laws.proofs.Reflect.{sound-is, sound-table-is}
 use Rattle.laws.proofs.Central.{position-steps}
 use Rattle.laws.proofs.Tree.{tree-of}
@@ -24,7 +26,8 @@ use Rattle.laws.proofs.Removal.{sound-rows}
 use Rattle.demands.specs.Record.{Words32}
 use Rattle.demands.specs.Model.{Future, Backward}
 use Rattle.demands.specs.Follows.{ofRows}
-use Rattle.demands.specs.Readings.{BackRestoresShown, OwnFutureEnough, VisibleFuturesEnough, BackIs, ToLatestPast, FromLatestOfAll, ToFirst}
+use Rattle.demands.specs.Note.{NoneBelow}
+use Rattle.demands.specs.Readings.{BackRestoresShown, OwnFutureEnough, VisibleFuturesEnough, BackIs, ToLatestPast, FromLatestOfAll, ToFirst, AnyDrop, GoneAsNoted}
 use Rattle.demands.proofs.Histories.{same-refl}
 use Rattle.demands.proofs.Traverses.{walk-model}
 use Rattle.demands.proofs.Active.{visible-active}
@@ -37,12 +40,16 @@ abbrev ten : List ℕ
 ten =
     written (replicate 35 0) (record { rows = row 0 0 none 1 ∷ row 1 1 0 1 ∷ row 2 0 none 0 ∷ row 3 2 2 1 ∷ []; nextDoc = 4; nextFrame = 3 })
 
+-- All words are tried.
+wide-by : (words : List ℕ) → So (allBelow (length words) (λ k. leb (getD words k 0) none)) → Words32 words
+wide-by words small k =
+    by-lt k (length words)
+    (λ l. leb-true _ _ (all-out (λ k. leb (getD words k 0) none) (length words) small k l))
+    (λ l. subst (λ v. v ≤ none) (sym (List·getD-eq-default words 0 l)) (omega arith))
+
 ten-wide : Words32 ten
 unfolding written wordsOf put allBelow flatMap
-ten-wide k =
-    by-lt k 35
-    (λ l. leb-true _ _ (all-out (λ k. leb (getD ten k 0) none) 35 refl k l))
-    (λ l. subst (λ v. v ≤ none) (sym (List·getD-eq-default ten 0 l)) (omega arith))
+ten-wide = wide-by ten refl
 
 ten-sound : Sound ten
 unfolding someBelow allBelow count earliest latest tab gather step reach put tableOf wordsOf written soundTable? sound? flatMap
@@ -66,6 +73,55 @@ unfolding someBelow allBelow count earliest latest tab gather inRecord place wit
 own-future-not-enough claim =
     let s7 = claim 8 five 2 (sound-table-is 8 five .0 refl) refl in
     omega (arith, s7 .later 3 4 (omega arith) (omega arith) refl refl refl)
+
+-- DEMAND 3
+
+isNavigation : Move → Bool
+isNavigation (Move.opens p) = false
+isNavigation (Move.navigates d) = true
+isNavigation (Move.goes δ room) = false
+isNavigation (Move.drops f) = false
+
+someNavigation : List Move → Bool
+someNavigation [] = false
+someNavigation (m ∷ moves) = isNavigation m || someNavigation moves
+
+-- Moves without a navigation have none from a lower position.
+none-below : (words : List ℕ) (moves : List Move) → someNavigation moves ≡ false → NoneBelow words moves
+unfolding isNavigation someNavigation
+none-below words moves none before rest d e a = absurd (clash (found before) (ap someNavigation (sym e) ∙ none))
+  where
+    found : (before : List Move) → So (someNavigation (before ++ Move.navigates d ∷ rest))
+    found [] = refl
+    found (m ∷ before) = or-right (isNavigation m) (found before)
+
+-- Of steps 3 and 4, in frames 1 and 2, the first is taken. Frame 1 goes, step 4 is taken: the position is 1 again, and document 2 of frame 2 has given way to 4.
+abbrev two : List ℕ
+two =
+    written (replicate 23 0)
+    (record { rows = row 0 0 none 1 ∷ row 1 1 0 0 ∷ row 2 2 0 1 ∷ row 3 1 0 1 ∷ row 4 2 0 0 ∷ []; nextDoc = 5; nextFrame = 3 })
+
+pub taken-may-not-go : AnyDrop → ⊥
+unfolding someBelow allBelow count earliest latest tab gather inRecord place isFrame withFlags climb step reach position steps visible
+    gone without show forward walked shownDoc changeRow changes parentOf isNavigation someNavigation
+    put tableOf wordsOf written soundTable? sound? refusals accepted ladder outcome run flatMap
+taken-may-not-go claim =
+    let moves = Move.drops 1 ∷ Move.goes (pos 1) (replicate 4 0) ∷ [] in
+    false≢true (claim two moves (wide-by two refl) (sound-is two .0 refl) (none-below two moves refl) moves [] refl refl 2 refl refl)
+
+-- Frame 1 has no step. It goes, and document 1 with it, which was visible.
+abbrev one : List ℕ
+one = written (replicate 11 0) (record { rows = row 0 0 none 1 ∷ row 1 1 0 1 ∷ []; nextDoc = 2; nextFrame = 2 })
+
+pub gone-not-as-noted : GoneAsNoted → ⊥
+unfolding someBelow allBelow count earliest latest tab gather inRecord place isFrame withFlags climb step reach position steps visible
+    gone without parentOf isNavigation someNavigation put tableOf wordsOf written soundTable? sound? refusals accepted ladder outcome run flatMap
+gone-not-as-noted claim =
+    let moves = Move.drops 1 ∷ [] in
+    false≢true (claim one moves (wide-by one refl) (sound-is one .0 refl) (record {
+      none-below = none-below one moves refl;
+      taken-stay = λ before rest f d e h t. clash (t .3) (not-true _ (all-out (λ i. not (taken (rowsOf one) i)) 2 refl (t .0) (t .1)));
+    }) moves [] refl refl 1 refl)
 
 -- 001'S MODEL
 

@@ -15,7 +15,7 @@ use Rattle.rules.specs.Calls.{Answer, outcome}
 use Rattle.rules.specs.Runs.{Move, on, after}
 use Rattle.demands.specs.Record.{Words32, Accepted}
 use Rattle.demands.specs.Saving.{UndoEachOther}
-use Rattle.demands.specs.Model.{History, IsHistory, Root, FA, JointFuture, navigating, Same, Traverses, WellFormed}
+use Rattle.demands.specs.Model.{History, IsHistory, Root, FA, JointFuture, deleting, navigating, Same, Traverses, WellFormed}
 
 -- n places with their documents, frames, parents and marks, as a history: "Row order is chronological order." "A frame is the source's session,
 -- shown its active."
@@ -36,6 +36,10 @@ ofRows rows = ofPlaces (length rows) (docAt rows) (frameAt rows) (parentAt rows)
 abbrev pub historyOf : List ℕ → History
 historyOf words = ofRows (rowsOf words)
 
+-- d is a document of frame f.
+abbrev pub OfFrame : List Row → ℕ → ℕ → Type 0
+OfFrame rows f d = (i : ℕ) × (i < length rows) × (docAt rows i ≡ d) × (frameAt rows i ≡ f)
+
 pub record FollowsModel (words : List ℕ) : Type 1 where
   -- A sound record is a navigation history (001, definition 1), and "well formed" (001, definition 5; document 01, S7).
   pub is-history : IsHistory (historyOf words)
@@ -53,6 +57,11 @@ pub record FollowsModel (words : List ℕ) : Type 1 where
   -- An accepted Traverse by δ: "H traverses the history by δ to H'", and to no other history.
   pub traverse : (δ : ℤ) (room : List ℕ) → Accepted (on words (Move.goes δ room)) →
       (K : History) → Traverses δ (historyOf words) K ↔ Same (historyOf (after words (Move.goes δ room))) K
+  -- An accepted Drop of frame f, "all its rows and all beneath them go", is "deleting" its documents (001, definition 2); "the document that holds the
+  -- frame must be visible" (document 02, L1).
+  pub drop : (f : ℕ) → Accepted (on words (Move.drops f)) →
+      ((p : ℕ) × FA (historyOf words) p × ((d : ℕ) → OfFrame (rowsOf words) f d → historyOf words .child p d))
+      × Same (deleting (historyOf words) (OfFrame (rowsOf words) f)) (historyOf (after words (Move.drops f)))
   -- "Theorem 1: [..] if H traverses the history by δ to H' and H' traverses the history by δ' to H'' then H traverses the history by δ + δ' to H''."
   pub theorem-1 : (δ δ' : ℤ) (K L : History) → Traverses δ (historyOf words) K → Traverses δ' K L → Traverses (δ +ℤ δ') (historyOf words) L
   -- What is refused by 4, 5 or 6 has no result in the model.

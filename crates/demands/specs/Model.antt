@@ -78,7 +78,7 @@ module _ (H : History) where
   abbrev pub CanGoBack : ℕ → Type 0
   CanGoBack d = (c : ℕ) × Future c d
 
-  -- "Definition 2: deleting d from H": "D' = D \ {e | d →* e}", for every d of a set.
+  -- "Definition 2: deleting d from H": "D' = D \ {e | d →* e}", for every d of a set, active ones among them; of A and of the relations stays what is on D'.
   abbrev pub Remains : (ℕ → Type 0) → ℕ → Type 0
   Remains gone e = H .D e × (((d : ℕ) × gone d × Star (H .child) d e) → ⊥)
 

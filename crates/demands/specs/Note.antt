@@ -41,8 +41,13 @@ pub record MayFollow (words : List ℕ) (moves : List Move) : Type 0 where
   -- "sequences in which no removed row is one of the noted position's taken steps"
   pub taken-stay : (before rest : List Move) (f d : ℕ) → moves ≡ before ++ Move.drops f ∷ rest → Removes (run words before) (Move.drops f) d → TakenStep words d → ⊥
 
--- "Each time the position is the noted one again, the visible documents that already existed at the note are exactly the noted ones": of the "noted documents
--- still in the record".
+-- "Each time the position is the noted one again, the visible documents that already existed at the note are exactly the noted ones": all of them, and as document
+-- 02 has it, the "noted documents still in the record".
+abbrev pub AllVisibleAgain : List ℕ → List Move → Type 0
+AllVisibleAgain words moves =
+    (before rest : List Move) → moves ≡ before ++ rest → positionIn (run words before) ≡ positionIn words →
+    (d : ℕ) → So (inRecord (rowsOf words) d) → visible (rowsOf (run words before)) d ≡ visible (rowsOf words) d
+
 abbrev pub VisibleAgain : List ℕ → List Move → Type 0
 VisibleAgain words moves =
     (before rest : List Move) → moves ≡ before ++ rest → positionIn (run words before) ≡ positionIn words →
@@ -76,10 +81,8 @@ pub record Demand3 : Type 0 where
   -- "the same holds among frame numbers"
   pub new-frames : (words : List ℕ) (moves : List Move) → Words32 words → Sound words → New HandsFrame (λ f. So (isFrame (rowsOf words) f)) words moves
 
--- Where no drop is accepted, all that existed at the note is meant, in the record still or not.
+-- Where no drop is accepted, it is said of all documents that existed at the note, in the record still or not.
 abbrev pub WithoutDrops : Type 0
 WithoutDrops =
     (words : List ℕ) (moves : List Move) → Words32 words → Sound words → NoneBelow words moves →
-    ((before rest : List Move) (f : ℕ) → moves ≡ before ++ Move.drops f ∷ rest → Accepted (on (run words before) (Move.drops f)) → ⊥) →
-    (before rest : List Move) → moves ≡ before ++ rest → positionIn (run words before) ≡ positionIn words →
-    (d : ℕ) → So (inRecord (rowsOf words) d) → visible (rowsOf (run words before)) d ≡ visible (rowsOf words) d
+    ((before rest : List Move) (f : ℕ) → moves ≡ before ++ Move.drops f ∷ rest → Accepted (on (run words before) (Move.drops f)) → ⊥) → AllVisibleAgain words moves

@@ -16,6 +16,7 @@ use Rattle.rules.specs.Runs.{Move, on, after}
 use Rattle.demands.specs.Record.{Words32, Accepted}
 use Rattle.demands.specs.Model.{History, Future, FA, JointPast, NextBefore, traversingTo, Same}
 use Rattle.demands.specs.Follows.{ofRows}
+use Rattle.demands.specs.Note.{NoneBelow, MayFollow, AllVisibleAgain, VisibleAgain}
 
 -- The shown set.
 abbrev pub shownSet : List Row → List ℕ
@@ -74,3 +75,11 @@ FromLatestOfAll H K = (d' d : ℕ) × Latest H (λ e. JointPast H e ⊎ H .A e) 
 -- To the first document of a session instead of the one next before.
 abbrev pub ToFirst : History → History → Type 0
 ToFirst H K = (d' d : ℕ) × Future H d d' × ((e : ℕ) → Future H e d' → H .le d e) × Same (traversingTo H d) K
+
+-- Demand 3 after any drops: that the documents still in the record are visible as noted, though a step of the noted position is gone.
+abbrev pub AnyDrop : Type 0
+AnyDrop = (words : List ℕ) (moves : List Move) → Words32 words → Sound words → NoneBelow words moves → VisibleAgain words moves
+
+-- Demand 3 of documents that went with a frame: that they are visible as noted.
+abbrev pub GoneAsNoted : Type 0
+GoneAsNoted = (words : List ℕ) (moves : List Move) → Words32 words → Sound words → MayFollow words moves → AllVisibleAgain words moves

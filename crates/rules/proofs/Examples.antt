@@ -327,156 +327,41 @@ examples-hold = refl
 
 -- DROP (document 02, L1)
 
--- X without frame 1: with 1 and 5 go 2 and 4, which are beneath 1; position 0 of 0, visible 0,3.
-abbrev d1 : Case
-d1 =
+-- A case whose last call is no traversal.
+abbrev case : List ℕ → List Move → List Answer → Answer → List ℕ → List ℕ → List ℕ → Case
+case start moves answers stands documents shown sees =
     record {
-      start = X;
-      moves = Move.drops 1 ∷ [];
-      expected = record {
-        answers = ok 4 ∷ [];
-        stands = at 0 0;
-        documents = 0 ∷ 3 ∷ [];
-        shown = 0 ∷ 3 ∷ [];
-        sees = 0 ∷ 3 ∷ [];
-        changed = [];
-      };
-    }
-
--- X without frame 2: 2 and 4 go, the position falls to 0; 5 is upcoming still.
-abbrev d2 : Case
-d2 =
-    record {
-      start = X;
-      moves = Move.drops 2 ∷ [];
-      expected = record {
-        answers = ok 2 ∷ [];
-        stands = at 0 1;
-        documents = 0 ∷ 1 ∷ 3 ∷ 5 ∷ [];
-        shown = 0 ∷ 1 ∷ 3 ∷ [];
-        sees = 0 ∷ 1 ∷ 3 ∷ [];
-        changed = [];
-      };
-    }
-
--- The root frame, and frames that are in no row: X stays.
-abbrev d3 : Case
-d3 = record { start = X; moves = Move.drops 0 ∷ Move.drops 9 ∷ Move.drops 4 ∷ []; expected = asX (no 10 ∷ no 4 ∷ no 4 ∷ []) [] }
-
--- X by +1: 5 is shown in frame 1, so the parent of frame 2, document 1, is hidden.
-abbrev d4 : Case
-d4 =
-    record {
-      start = X;
-      moves = forwardBy 1 ∷ Move.drops 2 ∷ [];
-      expected = record {
-        answers = ok 1 ∷ no 5 ∷ [];
-        stands = at 2 2;
-        documents = 0 ∷ 1 ∷ 2 ∷ 3 ∷ 4 ∷ 5 ∷ [];
-        shown = 0 ∷ 3 ∷ 4 ∷ 5 ∷ [];
-        sees = 0 ∷ 3 ∷ 5 ∷ [];
-        changed = [];
-      };
-    }
-
--- X by +1 without frame 1: hidden rows go too, and the position falls by steps 5 and 4, though 4 is not visible.
-abbrev d5 : Case
-d5 =
-    record {
-      start = X;
-      moves = forwardBy 1 ∷ Move.drops 1 ∷ [];
-      expected = record {
-        answers = ok 1 ∷ ok 4 ∷ [];
-        stands = at 0 0;
-        documents = 0 ∷ 3 ∷ [];
-        shown = 0 ∷ 3 ∷ [];
-        sees = 0 ∷ 3 ∷ [];
-        changed = [];
-      };
-    }
-
--- X by -1 without frame 2: its step is upcoming, so the position stays.
-abbrev d6 : Case
-d6 =
-    record {
-      start = X;
-      moves = backBy 1 ∷ Move.drops 2 ∷ [];
-      expected = record {
-        answers = ok 1 ∷ ok 2 ∷ [];
-        stands = at 0 1;
-        documents = 0 ∷ 1 ∷ 3 ∷ 5 ∷ [];
-        shown = 0 ∷ 1 ∷ 3 ∷ [];
-        sees = 0 ∷ 1 ∷ 3 ∷ [];
-        changed = [];
-      };
-    }
-
--- Of steps 3 and 4 taken, 5 and 6 upcoming, those of frame 1 go, 3 and 6: position 1 of 2.
-abbrev d7 : Case
-d7 =
-    record {
-      start = crossing 3 4;
-      moves = Move.drops 1 ∷ [];
-      expected = record {
-        answers = ok 3 ∷ [];
-        stands = at 1 2;
-        documents = 0 ∷ 2 ∷ 4 ∷ 5 ∷ [];
-        shown = 0 ∷ 4 ∷ [];
-        sees = 0 ∷ 4 ∷ [];
-        changed = [];
-      };
-    }
-
--- Open, drop, open: neither number comes back.
-abbrev d8 : Case
-d8 =
-    record {
-      start = fresh 8;
-      moves = Move.opens 0 ∷ Move.drops 1 ∷ Move.opens 0 ∷ [];
-      expected = record {
-        answers = Answer.gives (1 ∷ 1 ∷ []) ∷ ok 1 ∷ Answer.gives (2 ∷ 2 ∷ []) ∷ [];
-        stands = at 0 0;
-        documents = 0 ∷ 2 ∷ [];
-        shown = 0 ∷ 2 ∷ [];
-        sees = 0 ∷ 2 ∷ [];
-        changed = [];
-      };
-    }
-
--- A drop on a full table makes room for an open.
-abbrev d9 : Case
-d9 =
-    record {
-      start = fresh 2;
-      moves = Move.opens 0 ∷ Move.opens 0 ∷ Move.drops 1 ∷ Move.opens 0 ∷ [];
-      expected = record {
-        answers = Answer.gives (1 ∷ 1 ∷ []) ∷ no 7 ∷ ok 1 ∷ Answer.gives (2 ∷ 2 ∷ []) ∷ [];
-        stands = at 0 0;
-        documents = 0 ∷ 2 ∷ [];
-        shown = 0 ∷ 2 ∷ [];
-        sees = 0 ∷ 2 ∷ [];
-        changed = [];
-      };
-    }
-
--- A parent that is shown beneath a hidden document is not visible: frame 3 in document 3, frame 2 in document 2, which gave way to 0.
-abbrev d10 : Case
-d10 =
-    record {
-      start = fresh 8;
-      moves = Move.opens 0 ∷ Move.navigates 0 ∷ Move.opens 2 ∷ Move.opens 3 ∷ backBy 1 ∷ Move.drops 3 ∷ Move.drops 2 ∷ Move.drops 1 ∷ [];
-      expected = record {
-        answers = Answer.gives (1 ∷ 1 ∷ []) ∷ ok 2 ∷ Answer.gives (3 ∷ 2 ∷ []) ∷ Answer.gives (4 ∷ 3 ∷ []) ∷ ok 1 ∷ no 5 ∷ no 5 ∷ ok 1 ∷ [];
-        stands = at 0 1;
-        documents = 0 ∷ 2 ∷ 3 ∷ 4 ∷ [];
-        shown = 0 ∷ 3 ∷ 4 ∷ [];
-        sees = 0 ∷ [];
-        changed = [];
-      };
+      start = start;
+      moves = moves;
+      expected = record { answers = answers; stands = stands; documents = documents; shown = shown; sees = sees; changed = [] };
     }
 
 abbrev pub drops : List Case
-drops = d1 ∷ d2 ∷ d3 ∷ d4 ∷ d5 ∷ d6 ∷ d7 ∷ d8 ∷ d9 ∷ d10 ∷ []
+drops =
+    -- X without frame 1: with 1 and 5 go 2 and 4, which are beneath 1; position 0 of 0, visible 0,3.
+    case X (Move.drops 1 ∷ []) (ok 4 ∷ []) (at 0 0) (0 ∷ 3 ∷ []) (0 ∷ 3 ∷ []) (0 ∷ 3 ∷ [])
+    -- X without frame 2: 2 and 4 go, and the position falls to 0; 5 is upcoming still.
+    ∷ case X (Move.drops 2 ∷ []) (ok 2 ∷ []) (at 0 1) (0 ∷ 1 ∷ 3 ∷ 5 ∷ []) (0 ∷ 1 ∷ 3 ∷ []) (0 ∷ 1 ∷ 3 ∷ [])
+    -- The root frame, and frames that are in no row, though 4 is a document: X stays.
+    ∷ record { start = X; moves = Move.drops 0 ∷ Move.drops 9 ∷ Move.drops 4 ∷ []; expected = asX (no 10 ∷ no 4 ∷ no 4 ∷ []) [] }
+    -- X by +1: 5 is shown in frame 1, so the parent of frame 2, document 1, is hidden.
+    ∷ case X (forwardBy 1 ∷ Move.drops 2 ∷ []) (ok 1 ∷ no 5 ∷ []) (at 2 2) (0 ∷ 1 ∷ 2 ∷ 3 ∷ 4 ∷ 5 ∷ []) (0 ∷ 3 ∷ 4 ∷ 5 ∷ []) (0 ∷ 3 ∷ 5 ∷ [])
+    -- X by +1 without frame 1: hidden rows go too, and the position falls by steps 5 and 4, though 4 is not visible.
+    ∷ case X (forwardBy 1 ∷ Move.drops 1 ∷ []) (ok 1 ∷ ok 4 ∷ []) (at 0 0) (0 ∷ 3 ∷ []) (0 ∷ 3 ∷ []) (0 ∷ 3 ∷ [])
+    -- X by -1 without frame 2: its step is upcoming, so the position stays.
+    ∷ case X (backBy 1 ∷ Move.drops 2 ∷ []) (ok 1 ∷ ok 2 ∷ []) (at 0 1) (0 ∷ 1 ∷ 3 ∷ 5 ∷ []) (0 ∷ 1 ∷ 3 ∷ []) (0 ∷ 1 ∷ 3 ∷ [])
+    -- Steps 3 and 4 are taken, 5 and 6 upcoming. With frame 1 go 3 and 6: position 1 of 2.
+    ∷ case (crossing 3 4) (Move.drops 1 ∷ []) (ok 3 ∷ []) (at 1 2) (0 ∷ 2 ∷ 4 ∷ 5 ∷ []) (0 ∷ 4 ∷ []) (0 ∷ 4 ∷ [])
+    -- Open, drop, open: neither number comes back.
+    ∷ case (fresh 8) (Move.opens 0 ∷ Move.drops 1 ∷ Move.opens 0 ∷ [])
+    (Answer.gives (1 ∷ 1 ∷ []) ∷ ok 1 ∷ Answer.gives (2 ∷ 2 ∷ []) ∷ []) (at 0 0) (0 ∷ 2 ∷ []) (0 ∷ 2 ∷ []) (0 ∷ 2 ∷ [])
+    -- A drop on a full table makes room for an open.
+    ∷ case (fresh 2) (Move.opens 0 ∷ Move.opens 0 ∷ Move.drops 1 ∷ Move.opens 0 ∷ [])
+    (Answer.gives (1 ∷ 1 ∷ []) ∷ no 7 ∷ ok 1 ∷ Answer.gives (2 ∷ 2 ∷ []) ∷ []) (at 0 0) (0 ∷ 2 ∷ []) (0 ∷ 2 ∷ []) (0 ∷ 2 ∷ [])
+    -- Document 2 gave way to 0. The parent of frame 3, document 3 beneath 2, is shown and not visible; that of frame 2 is document 2.
+    ∷ case (fresh 8) (Move.opens 0 ∷ Move.navigates 0 ∷ Move.opens 2 ∷ Move.opens 3 ∷ backBy 1 ∷ Move.drops 3 ∷ Move.drops 2 ∷ Move.drops 1 ∷ [])
+    (Answer.gives (1 ∷ 1 ∷ []) ∷ ok 2 ∷ Answer.gives (3 ∷ 2 ∷ []) ∷ Answer.gives (4 ∷ 3 ∷ []) ∷ ok 1 ∷ no 5 ∷ no 5 ∷ ok 1 ∷ []) (at 0 1) (0 ∷ 2 ∷ 3 ∷ 4 ∷ []) (0 ∷ 3 ∷ 4 ∷ []) (0 ∷ [])
+    ∷ []
 
 pub drops-hold : map seen drops ≡ map (λ c. c .expected) drops
 unfolding someBelow allBelow count earliest latest tab gather inRecord place isFrame withFlags climb step reach position steps visible
@@ -564,14 +449,10 @@ smalls =
     ∷ small (Call.Drop X 1) (ok 4) (holding 8 (row 0 0 none 1 ∷ row 3 3 0 1 ∷ []) 6 4 ∷ [])
     ∷ small (Call.Drop X 2) (ok 2) (holding 8 (row 0 0 none 1 ∷ row 1 1 0 1 ∷ row 3 3 0 1 ∷ row 5 1 0 0 ∷ []) 6 4 ∷ [])
     ∷ small (Call.Drop X 3) (ok 1) (holding 8 (row 0 0 none 1 ∷ row 1 1 0 1 ∷ row 2 2 1 0 ∷ row 4 2 1 1 ∷ row 5 1 0 0 ∷ []) 6 4 ∷ [])
-    -- "4 for a frame not in the record", though it is a document's number, and though document 0 is not visible; "10 for the root frame", of which no document
-    -- is a visible parent.
-    ∷ small (Call.Drop X 9) (no 4) (X ∷ [])
-    ∷ small (Call.Drop X 5) (no 4) (X ∷ [])
+    -- "4 for a frame not in the record", though document 0 is not visible; "10 for the root frame", though no visible document holds it; "5 when its parent
+    -- isn't visible": 10 comes after 4 and before 5.
     ∷ small (Call.Drop left 1) (no 4) (left ∷ [])
-    ∷ small (Call.Drop X 0) (no 10) (X ∷ [])
     ∷ small (Call.Drop left 0) (no 10) (left ∷ [])
-    -- "5 when its parent isn't visible": frame 2 in document 1, which is not shown.
     ∷ small (Call.Drop underHidden 2) (no 5) (underHidden ∷ [])
     -- 1 and 2 come before all three.
     ∷ small (Call.Drop (replicate 6 0) 0) (no 1) (replicate 6 0 ∷ [])

@@ -93,7 +93,7 @@ usedUp next = eqb next none
 abbrev pub tooShort : List ℕ → List ℕ → Bool
 tooShort room values = ltb (length room) (length values)
 
--- "Refusals: 4 for a frame not in the record [..] 10 for the root frame", which has no parent
+-- "Refusals: 4 for a frame not in the record, 5 when its parent isn't visible, 10 for the root frame", which has no parent (document 02, L1)
 abbrev pub noFrame : List ℕ → ℕ → Bool
 noFrame words f = not (isFrame (rowsOf words) f)
 
@@ -135,7 +135,7 @@ refusals (Call.Outline words room) = 1 when short words ∷ 2 when unsound words
 refusals (Call.Save words room) = 1 when short words ∷ 2 when unsound words ∷ 9 when tooShort room (saved (tableOf words)) ∷ []
 refusals (Call.Load words bytes) = 1 when short words ∷ 3 when not (fromSave? bytes) ∷ 7 when ltb (capacity words) (length (loaded bytes .rows)) ∷ []
 
--- What a call answers and leaves that is not refused. A run keeps what stands past the values written into it.
+-- What a call answers and leaves that is not refused. A run keeps what stands past the values written into it. Drop: "the count of rows removed as its value".
 infix 20 _leaving_
 abbrev pub _leaving_ : List ℕ → List (List ℕ) → Outcome
 values leaving runs = record { answer = Answer.gives values; lent = runs }
@@ -160,8 +160,8 @@ accepted (Call.Outline words room) = length (outlineOf (tableOf words)) / 2 ∷ 
 accepted (Call.Save words room) = length (saved (tableOf words)) ∷ [] leaving put room 0 (saved (tableOf words)) ∷ []
 accepted (Call.Load words bytes) = length (loaded bytes .rows) ∷ [] leaving written words (loaded bytes) ∷ []
 
--- Where several apply, the first line of the call's table is given: among the nine "the smallest number". "A refusal returns its number alone [..] and changes
--- no lent word or byte."
+-- Where several apply, the first line of the call's table is given, in the calls of document 01 "the smallest number". "A refusal returns its number
+-- alone [..] and changes no lent word or byte."
 unfoldable pub ladder : List Rung → List (List ℕ) → Outcome → Outcome
 ladder [] lent done = done
 ladder (r ∷ rungs) lent done =
