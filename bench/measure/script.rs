@@ -33,9 +33,10 @@ fn some_visible(lent: &mut Lent, random: &mut Random) -> u32 {
     lent.first[2 * random.below(pairs) as usize + 1]
 }
 
-/// The frame of a visible document.
-fn some_frame(lent: &mut Lent, random: &mut Random) -> u32 {
-    let document = some_visible(lent, random);
+/// The frame of the last visible document in the outline; the root frame where there is no other.
+fn last_frame(lent: &mut Lent) -> u32 {
+    let pairs = asked(lent, Call::Outline);
+    let document = lent.first[2 * pairs as usize - 1];
     let rows = lent.words[3..].as_chunks::<4>().0;
     rows.iter().find(|row| row[0] == document).expect("a row of the record")[1]
 }
@@ -55,7 +56,7 @@ pub fn write(lines: usize, out: &mut impl Write) -> std::io::Result<()> {
             (_, 9..=13) => ("go", Call::Traverse(-1)),
             (_, 14..=17) => ("go", Call::Traverse(1)),
             (_, 18) => ("nav", Call::Navigate(u32::MAX)),
-            (_, 19) => ("drop", Call::Drop(some_frame(lent, &mut random))),
+            (_, 19) => ("drop", Call::Drop(last_frame(lent))),
             _ => ("back", Call::Position),
         };
         make(&OURS, call, lent);
