@@ -23,10 +23,12 @@ pub fn script(random: &mut Random, lines: usize) -> (Vec<u8>, Vec<u8>) {
     let (bad_share, drop_share, widest_go) =
         if lines > 1000 { (2, 1, 1) } else { (random.pick(&[0, 2, 10, 60]), random.pick(&[0, 3, 15]), random.pick(&[1, 3, 600])) };
     for _ in 0..lines {
-        let line = match () {
-            _ if random.chance(bad_share) => bad_line(random),
-            _ if random.chance(drop_share) => drop_line(random, &window.words),
-            _ => good_line(random, &window.words, widest_go),
+        let line = if random.chance(bad_share) {
+            bad_line(random)
+        } else if random.chance(drop_share) {
+            drop_line(random, &window.words)
+        } else {
+            good_line(random, &window.words, widest_go)
         };
         answers.extend(window.answer(&line).bytes());
         answers.push(b'\n');
