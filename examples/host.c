@@ -1,5 +1,6 @@
 /* A clerk at the order desk: a stock list and a quotation side by side in one window. The clerk goes on in both, goes back once, and
-   follows another link. What was ahead is gone, and its number never comes back.
+   follows another link. What was ahead is gone, and its number never comes back. Then the clerk picks cash sale, and the quotation's
+   page takes its price frame out.
 
    Link with libframe_history.a, which `rt staticlib frame_history` writes. */
 #include "frame_history.h"
@@ -21,7 +22,7 @@ static void stands(const uint32_t *words) {
 }
 
 int main(void) {
-  uint32_t words[WORDS], changes[4 * ROWS], count, frame, stock, quotation, more, terms, other, answer = 7, number;
+  uint32_t words[WORDS], changes[4 * ROWS], count, frame, stock, quotation, more, terms, other, prices, removed, answer = 7, number;
 
   if (refused("fresh", frame_history_fresh(words, WORDS))) return 1;
   if (refused("open", frame_history_open(words, WORDS, 0, &stock, &frame))) return 1;
@@ -45,6 +46,16 @@ int main(void) {
 
   if (refused("navigate", frame_history_navigate(words, WORDS, quotation, &other))) return 1;
   printf("another link: document %u, not %u\n", (unsigned)other, (unsigned)terms);
+  stands(words);
+
+  if (refused("open", frame_history_open(words, WORDS, other, &prices, &frame))) return 1;
+  printf("prices: document %u in frame %u\n", (unsigned)prices, (unsigned)frame);
+  if (refused("navigate", frame_history_navigate(words, WORDS, prices, &more))) return 1;
+  printf("next page of the prices: document %u\n", (unsigned)more);
+  stands(words);
+
+  if (refused("drop", frame_history_drop(words, WORDS, frame, &removed))) return 1;
+  printf("cash sale: frame %u goes, %u rows\n", (unsigned)frame, (unsigned)removed);
   stands(words);
 
   number = frame_history_visible(words, WORDS, terms, &answer);

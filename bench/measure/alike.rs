@@ -19,6 +19,7 @@ fn others(call: Call, most: u32) -> Vec<Call> {
         Call::Open(_) => (0..=most).map(Call::Open).collect(),
         Call::Navigate(_) => (0..=most).map(Call::Navigate).collect(),
         Call::Visible(_) => (0..=most).map(Call::Visible).collect(),
+        Call::Drop(_) => (0..=most).map(Call::Drop).collect(),
         Call::Traverse(_) => amounts().map(Call::Traverse).collect(),
         Call::Stretch(_) => amounts().map(Call::Stretch).collect(),
         call => vec![call],

@@ -1,7 +1,7 @@
 //! The calls that are measured, each on a record of a shape.
 use crate::calls::{Call, Lent, make};
 use crate::face::OURS;
-use crate::shapes::{Shape, record};
+use crate::shapes::{Shape, nested, record};
 
 /// A call, and what is lent to it.
 pub struct Case {
@@ -28,6 +28,17 @@ fn last_shown(words: &[u32]) -> u32 {
     words[3 + 4 * row]
 }
 
+/// The frame of the second row.
+fn second_frame(words: &[u32]) -> u32 {
+    words[8]
+}
+
+/// The document that a frame shows.
+fn shown_in(words: &[u32], frame: u32) -> u32 {
+    let rows = words[3..].as_chunks::<4>().0;
+    rows.iter().find(|row| row[1] == frame && row[3] == 1).expect("a shown row")[0]
+}
+
 /// A record's saved form beside the record.
 fn saved(words: &[u32]) -> Lent {
     let mut lent = after(Call::Save, words);
@@ -41,11 +52,14 @@ pub fn cases(shape: Shape, rows: usize) -> Vec<Case> {
     let whole = record(shape, rows, rows);
     let less = record(shape, rows - 1, rows);
     let stepped = after(Call::Navigate(last(&less)), &less).words;
+    let second = second_frame(&less);
+    let held = after(Call::Open(shown_in(&less, second)), &less).words;
     let mut cases = vec![
         case("fresh", Call::Fresh, &whole),
         case("open", Call::Open(last(&less)), &less),
         case("navigate", Call::Navigate(last(&less)), &less),
         case("traverse by 1", Call::Traverse(-1), &stepped),
+        case("drop", Call::Drop(second), &held),
         case("position", Call::Position, &whole),
         case("visible", Call::Visible(last(&whole)), &whole),
         case("lists", Call::Lists, &whole),
@@ -59,6 +73,8 @@ pub fn cases(shape: Shape, rows: usize) -> Vec<Case> {
         let halfway = after(Call::Traverse(-(steps + 1) / 2), &stepped).words;
         cases.insert(3, case("navigate, half upcoming", Call::Navigate(last_shown(&halfway)), &halfway));
         cases.insert(5, case("traverse by all steps", Call::Traverse(-steps), &stepped));
+        let nested = nested(rows);
+        cases.insert(7, case("drop, half beneath", Call::Drop(second_frame(&nested)), &nested));
     }
     cases
 }

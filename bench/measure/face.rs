@@ -11,6 +11,7 @@ pub struct Face {
     pub open: unsafe extern "C" fn(Words, usize, u32, Out, Out) -> u32,
     pub navigate: unsafe extern "C" fn(Words, usize, u32, Out) -> u32,
     pub traverse: unsafe extern "C" fn(Words, usize, i32, Words, usize, Out) -> u32,
+    pub drop: unsafe extern "C" fn(Words, usize, u32, Out) -> u32,
     pub position: unsafe extern "C" fn(Read, usize, Out, Out, Out) -> u32,
     pub visible: unsafe extern "C" fn(Read, usize, u32, Out) -> u32,
     pub lists: unsafe extern "C" fn(Read, usize, Words, usize, Words, usize, Out, Out) -> u32,
@@ -25,6 +26,7 @@ extern "C" {
     fn frame_history_open(words: Words, count: usize, parent: u32, document: Out, frame: Out) -> u32;
     fn frame_history_navigate(words: Words, count: usize, from: u32, document: Out) -> u32;
     fn frame_history_traverse(words: Words, count: usize, delta: i32, changes: Words, changes_count: usize, changed: Out) -> u32;
+    fn frame_history_drop(words: Words, count: usize, frame: u32, removed: Out) -> u32;
     fn frame_history_position(words: Read, count: usize, position: Out, steps: Out, length: Out) -> u32;
     fn frame_history_visible(words: Read, count: usize, document: u32, answer: Out) -> u32;
     fn frame_history_lists(
@@ -48,6 +50,7 @@ pub static OURS: Face = Face {
     open: frame_history_open,
     navigate: frame_history_navigate,
     traverse: frame_history_traverse,
+    drop: frame_history_drop,
     position: frame_history_position,
     visible: frame_history_visible,
     lists: frame_history_lists,
@@ -62,6 +65,7 @@ pub static TWIN: Face = Face {
     open: face::open,
     navigate: face::navigate,
     traverse: face::traverse,
+    drop: face::drop,
     position: face::position,
     visible: face::visible,
     lists: face::lists,

@@ -44,6 +44,22 @@ fn called(shape: Shape, rows: usize, room: usize) -> Vec<u32> {
     lent.words
 }
 
+/// A desk whose first frame holds one of the two that are navigated in turn.
+pub fn nested(rows: usize) -> Vec<u32> {
+    let mut lent = Lent::new(vec![0; 3 + 4 * rows]);
+    accepted(Call::Fresh, &mut lent);
+    let mut latest = [0; 2];
+    for row in 1..rows {
+        let call = match row {
+            1 | 3 => Call::Open(0),
+            2 => Call::Open(latest[1]),
+            _ => Call::Navigate(latest[row % 2]),
+        };
+        latest[row % 2] = accepted(call, &mut lent);
+    }
+    lent.words
+}
+
 /// The record that the test of soundness takes longest for, word by word.
 fn worst(rows: usize, room: usize) -> Vec<u32> {
     let mut words = vec![0; 3 + 4 * room];

@@ -34,6 +34,11 @@ pub unsafe extern "C" fn traverse(words: *mut u32, count: usize, delta: i32, cha
     answer(traverse::traverse(lent_mut(words, count), delta, lent_mut(changes, changes_count)), |n| *changed = n as u32)
 }
 
+/// Takes a frame out: how many rows went.
+pub unsafe extern "C" fn drop(words: *mut u32, count: usize, frame: u32, removed: &mut u32) -> u32 {
+    answer(moves::drop_frame(lent_mut(words, count), frame), |n| *removed = n as u32)
+}
+
 /// Position, steps, and the length for scripts.
 pub unsafe extern "C" fn position(words: *const u32, count: usize, position: &mut u32, steps: &mut u32, length: &mut u32) -> u32 {
     answer(asks::position(lent(words, count)), |(p, s)| (*position, *steps, *length) = (p as u32, s as u32, s as u32))

@@ -1,4 +1,4 @@
-//! Fresh, Open and Navigate.
+//! Fresh, Open, Navigate and Drop.
 use crate::record::{FRAME, NONE, PARENT, Refusal, Row, SHOWN, capacity, climb, examine, find, locate, room_mut};
 
 /// The record of a new window.
@@ -73,4 +73,44 @@ pub fn navigate(words: &mut [u32], from: u32) -> Result<u32, Refusal> {
     }
     words[..2].copy_from_slice(&[kept as u32 + 1, document + 1]);
     Ok(document)
+}
+
+/// Moves down every row that is neither of the frame, whose first row is at `start`, nor beneath it; how many rows stay. The parents last found
+/// among the rows that stay and last missed there need no search.
+fn close_frame(rows: &mut [Row], start: usize) -> usize {
+    let [mut gone, frame, mut known, _] = rows[start];
+    let mut kept = start;
+    for at in start + 1..rows.len() {
+        let row = rows[at];
+        if row[FRAME] == frame || row[PARENT] == gone {
+            continue;
+        }
+        if row[PARENT] != known {
+            if row[PARENT] != NONE && find(&rows[..kept], row[PARENT]).is_none() {
+                gone = row[PARENT];
+                continue;
+            }
+            known = row[PARENT];
+        }
+        rows[kept] = row;
+        kept += 1;
+    }
+    kept
+}
+
+/// Takes a frame out: how many rows went.
+pub fn drop_frame(words: &mut [u32], frame: u32) -> Result<usize, Refusal> {
+    let rows = examine(words)?;
+    let count = rows.len();
+    let start = rows.iter().position(|row| row[FRAME] == frame).ok_or(Refusal::Absent)?;
+    let parent = rows[start][PARENT];
+    if parent == NONE {
+        return Err(Refusal::RootFrame);
+    }
+    judge_visible(&rows[..start], parent)?;
+    let rows = &mut room_mut(words)[..count];
+    let kept = close_frame(rows, start);
+    rows[kept..].fill([0; 4]);
+    words[0] = kept as u32;
+    Ok(count - kept)
 }

@@ -6,6 +6,7 @@ enum Command {
     Open(u32),
     Nav(u32),
     Go(i32),
+    Drop(u32),
 }
 
 /// The number that decimal digits without leading zeros spell, up to `top`.
@@ -36,6 +37,9 @@ fn parse(line: &[u8]) -> Option<Command> {
     }
     if let Some(text) = line.strip_prefix(b"nav ") {
         return Some(Command::Nav(numeral(text, u32::MAX)?));
+    }
+    if let Some(text) = line.strip_prefix(b"drop ") {
+        return Some(Command::Drop(numeral(text, u32::MAX)?));
     }
     let text = line.strip_prefix(b"go ")?;
     match text.strip_prefix(b"-") {
@@ -75,6 +79,7 @@ impl Window {
             Command::Open(parent) => Ok(moves::open(&mut self.words, parent)?.0 as usize),
             Command::Nav(from) => Ok(moves::navigate(&mut self.words, from)? as usize),
             Command::Go(delta) => traverse::traverse(&mut self.words, delta, &mut self.changes),
+            Command::Drop(frame) => moves::drop_frame(&mut self.words, frame),
         }
     }
 

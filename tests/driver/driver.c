@@ -26,6 +26,7 @@ u32 frame_history_open(u32 *words, usize n, u32 parent, u32 *document, u32 *fram
 u32 frame_history_navigate(u32 *words, usize n, u32 from, u32 *document);
 u32 frame_history_traverse(u32 *words, usize n, i32 delta, u32 *changes, usize changes_n, u32 *count);
 u32 frame_history_traverse_rows(u32 *words, usize n, i32 delta, row *rows, usize rows_n, u32 *count);
+u32 frame_history_drop(u32 *words, usize n, u32 frame, u32 *removed);
 u32 frame_history_position(const u32 *words, usize n, u32 *position, u32 *steps, u32 *length);
 u32 frame_history_visible(const u32 *words, usize n, u32 document, u32 *answer);
 u32 frame_history_lists(const u32 *words, usize n, u32 *taken, usize taken_n, u32 *upcoming, usize upcoming_n, u32 *taken_count, u32 *upcoming_count);
@@ -34,7 +35,7 @@ u32 frame_history_outline(const u32 *words, usize n, u32 *pairs, usize pairs_n, 
 u32 frame_history_save(const u32 *words, usize n, u8 *bytes, usize bytes_n, u32 *length);
 u32 frame_history_load(u32 *words, usize n, const u8 *bytes, usize bytes_n, u32 *rows);
 
-enum { FRESH, OPEN, NAVIGATE, TRAVERSE, POSITION, VISIBLE, LISTS, STRETCH, OUTLINE, SAVE, LOAD, NO_CALL = 99 };
+enum { FRESH, OPEN, NAVIGATE, TRAVERSE, DROP, POSITION, VISIBLE, LISTS, STRETCH, OUTLINE, SAVE, LOAD, NO_CALL = 99 };
 enum { HEAD = 11, RUNS = 4, PAGE = 65536, AREA = 2 * PAGE, GUARD = 64 };
 
 /* Standard input and output, each through a buffer. What is written goes out before the program waits for more. */
@@ -135,6 +136,7 @@ static u32 call(const u32 *head, u8 **run) {
     /* Every other guard word asks for the change rows as structs: the same outcome, of as many rows as the words hold. */
     if (head[3] & 1) return frame_history_traverse_rows(words, n, (i32)number, (row *)first, first_n / 4, a);
     return frame_history_traverse(words, n, (i32)number, first, first_n, a);
+  case DROP: return frame_history_drop(words, n, number, a);
   case POSITION: return frame_history_position(words, n, a, b, c);
   case VISIBLE: return frame_history_visible(words, n, number, a);
   case LISTS: return frame_history_lists(words, n, first, first_n, second, second_n, a, b);

@@ -1,4 +1,5 @@
-//! The calls, each with its refusals in rising order. An error is the number of the refusal; then nothing lent was written.
+//! The calls. Each tests its refusals in the order of its table, so the first that applies is given; among document 01's nine that is the
+//! smallest number. An error is the number of the refusal; then nothing lent was written.
 use crate::history::History;
 use crate::record::{capacity, rows, write, Row, FEWEST_WORDS, NONE};
 use crate::saved::{bytes_of, record_of};
@@ -88,6 +89,23 @@ pub fn traverse(words: &mut [u32], delta: i32, changes: &mut [u32]) -> Answer<u3
     let (next_document, next_frame) = (words[1], words[2]);
     write(words, next_document, next_frame, &after.rows());
     Ok(written.len() as u32)
+}
+
+/// "removal of a frame by its number: all its rows and all beneath them go, gaps close in order, the rest keeps its flags".
+/// Answers how many rows went.
+pub fn drop_frame(words: &mut [u32], frame: u32) -> Answer<u32> {
+    let mut history = examined(words)?;
+    let own = history.of_session(frame);
+    // "4 for a frame not in the record [..] 10 for the root frame; 10 comes after 4 and before 5".
+    let first = *own.first().ok_or(4u32)?;
+    let holder = history.documents[first].parent.ok_or(10u32)?;
+    // "The document that holds the frame must be visible."
+    refuse_when(5, !history.fully_active().contains(&holder))?;
+    let before = history.documents.len();
+    history.delete(&own);
+    let (next_document, next_frame) = (words[1], words[2]);
+    write(words, next_document, next_frame, &history.rows());
+    Ok((before - history.documents.len()) as u32)
 }
 
 /// Position and steps of a history.

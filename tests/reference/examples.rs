@@ -1,4 +1,4 @@
-//! Document 01's examples. Each check panics with its name when the reference gives something else.
+//! Document 01's examples, and examples of document 02's requests. Each check panics with its name when the reference gives something else.
 use crate::calls::*;
 use crate::history::History;
 use crate::record::{rows, NONE};
@@ -62,6 +62,7 @@ pub fn check_all() -> u32 {
     let mut checks = Checks { held: 0 };
     numbered_examples(&mut checks);
     small_examples(&mut checks);
+    drop_examples(&mut checks);
     saved_examples(&mut checks);
     sound_clauses(&mut checks);
     script_examples(&mut checks);
@@ -170,6 +171,64 @@ fn small_examples(c: &mut Checks) {
     c.same("navigate with all numbers used", navigate(&mut frames_used, 6), Err(8));
 }
 
+/// L1: "all its rows and all beneath them go, gaps close in order, the rest keeps its flags".
+fn drop_examples(c: &mut Checks) {
+    let x = record_x();
+    let after = |frame: u32, mut words: Vec<u32>| {
+        let removed = drop_frame(&mut words, frame);
+        (removed, words)
+    };
+    let (root, list, third, later) = ([0, 0, NONE, 1], [1, 1, 0, 1], [3, 3, 0, 1], [5, 1, 0, 0]);
+
+    let (removed, words) = after(1, x.clone());
+    c.same("X drop 1: 1 and 5, and 2 and 4 beneath 1", removed, Ok(4));
+    c.same("X drop 1 words", words.clone(), record(8, 6, 4, &[root, third]));
+    c.same("X drop 1 position", position(&words), Ok((0, 0, 0)));
+    c.same("X drop 1 visible", visible_documents(&words), vec![0, 3]);
+
+    let (removed, words) = after(2, x.clone());
+    c.same("X drop 2: 2 and 4", removed, Ok(2));
+    c.same("X drop 2 words", words.clone(), record(8, 6, 4, &[root, list, third, later]));
+    c.same("X drop 2: position falls by the step taken, 5 stays upcoming", position(&words), Ok((0, 1, 1)));
+    c.same("X drop 2 visible", visible_documents(&words), vec![0, 1, 3]);
+
+    let (removed, words) = after(3, x.clone());
+    c.same("X drop 3", removed, Ok(1));
+    c.same("X drop 3: no step goes", position(&words), Ok((1, 2, 2)));
+
+    let mut forward = x.clone();
+    go(&mut forward, 1).unwrap();
+    for (name, frame, words, refusal) in [
+        ("X drop 0, the root frame", 0, &x, 10),
+        ("X drop 9, not a frame", 9, &x, 4),
+        ("X drop 5, a document and not a frame", 5, &x, 4),
+        ("X drop 4294967295", NONE, &x, 4),
+        ("X by +1, drop 2: 1 is hidden", 2, &forward, 5),
+        ("X by +1, drop 0", 0, &forward, 10),
+    ] {
+        c.same(name, after(frame, words.clone()), (Err(refusal), words.clone()));
+    }
+    let (removed, words) = after(1, forward);
+    c.same("X by +1, drop 1: hidden rows go too", removed, Ok(4));
+    c.same("X by +1, drop 1 words", words, record(8, 6, 4, &[root, third]));
+    c.same("six words", drop_frame(&mut [9; 6], 0), Err(1));
+    c.same("X with a row too many", drop_frame(&mut [&[7], &x[1..]].concat(), 0), Err(2));
+
+    let mut again = fresh_record(8);
+    c.same("open", open(&mut again, 0), Ok((1, 1)));
+    c.same("drop", drop_frame(&mut again, 1), Ok(1));
+    c.same("drop leaves the next numbers", again.clone(), record(8, 2, 2, &[root]));
+    c.same("open once more: new numbers", open(&mut again, 0), Ok((2, 2)));
+    c.same("the old frame does not come back", drop_frame(&mut again, 1), Err(4));
+
+    let mut full = fresh_record(3);
+    c.same("full: open 0", open(&mut full, 0), Ok((1, 1)));
+    c.same("full: navigate 1", navigate(&mut full, 1), Ok(2));
+    c.same("full", open(&mut full, 0), Err(7));
+    c.same("full: drop 1", drop_frame(&mut full, 1), Ok(2));
+    c.same("full: room for an open", open(&mut full, 0), Ok((3, 2)));
+}
+
 fn saved_examples(c: &mut Checks) {
     let mut bytes = [0xee; 40];
     c.same("saved fresh record", save(&fresh_record(1), &mut bytes), Ok(32));
@@ -227,7 +286,14 @@ fn script_examples(c: &mut Checks) {
     for bad in ["go -0", "go +1", "go --1", "go -", "go", "go 2147483648", "go -2147483649", "go 0x1", "Go 1", "go -01"] {
         c.same(bad, script::parse(bad.as_bytes()), None);
     }
+    for bad in ["drop", "drop ", "drop  1", "drop 1 ", " drop 1", "drop 01", "drop 00", "drop +1", "drop -1", "drop -0", "drop 4294967296", "Drop 1", "drop 1\r"] {
+        c.same(bad, script::parse(bad.as_bytes()), None);
+    }
+    let input = "open 0\nopen 1\nnav 2\nnav 1\ndrop 2\ngo -1\ndrop 2\ndrop 2\ndrop 0\ndrop 1\nopen 0\n";
+    let wanted = "ok 1 0/0\nok 2 0/0\nok 3 1/1\nok 4 2/2\nno 5 2/2\nok 1 1/2\nok 2 0/1\nno 4 0/1\nno 10 0/1\nok 2 0/0\nok 5 0/0\n";
+    c.same("a script with drops", text(input), wanted.to_string());
     c.same("the largest number", script::parse(b"open 4294967295"), Some(script::Line::Open(NONE)));
+    c.same("the largest frame number", script::parse(b"drop 4294967295"), Some(script::Line::Drop(NONE)));
     c.same("the least number", script::parse(b"go -2147483648"), Some(script::Line::Go(i32::MIN)));
     c.same("the greatest number", script::parse(b"go 2147483647"), Some(script::Line::Go(i32::MAX)));
 }

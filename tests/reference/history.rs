@@ -139,6 +139,11 @@ impl History {
         self.documents.push(Document { number, session, parent, active: true });
     }
 
+    /// The documents of a session, earliest first.
+    pub fn of_session(&self, session: u32) -> Vec<usize> {
+        (0..self.documents.len()).filter(|&d| self.documents[d].session == session).collect()
+    }
+
     /// The active document of a session.
     pub fn shown_in(&self, session: u32) -> u32 {
         let shown = self.documents.iter().find(|d| d.active && d.session == session);

@@ -1,38 +1,76 @@
-//! Laws that the reference must keep on every record within a few moves of Fresh: document 001's theorem and its literal
-//! patches, demand 3's numbers, and the round trip of the saved form. Each panics when it fails.
+//! Laws that the reference must keep on every record within a few moves of Fresh: document 001's theorem, its literal
+//! patches and its deleting, demand 3, and the round trip of the saved form. Each panics when it fails.
 use crate::calls::*;
 use crate::history::History;
-use crate::record::{rows, write, Row};
+use crate::record::{rows, write, Row, NONE};
 use crate::saved::{bytes_of, record_of};
 use crate::sound::{broken, is_sound};
 use std::collections::{BTreeMap, HashSet};
 
 const ROOM: usize = 5;
 const MOVES: usize = 6;
+const NOTED_AFTER: usize = 4;
+const MOVES_SINCE: usize = 4;
+
+#[derive(Clone, Copy, PartialEq)]
+enum Move {
+    Open,
+    Navigate,
+    Traverse,
+    Drop,
+}
 
 /// Checks every record that MOVES moves can reach in ROOM rows; answers how many there are.
 pub fn check_all() -> usize {
     let mut start = vec![0; 3 + 4 * ROOM];
     fresh(&mut start).unwrap();
-    let mut reached = HashSet::from([start.clone()]);
-    let mut latest = vec![start];
-    for _ in 0..MOVES {
+    let any = |_: &[u32], _: Move, _: &[u32]| true;
+    reached(&start, NOTED_AFTER, any).iter().for_each(|note| noted(note));
+    let reached = reached(&start, MOVES, any);
+    for record in &reached {
+        traversal(record);
+        dropping(record);
+        round_trip(record);
+        well_formed_is_s7(record);
+    }
+    reached.len()
+}
+
+/// Every record that so many accepted moves can reach, of those moves that are allowed on a record and with what they give.
+fn reached(start: &[u32], moves: usize, allowed: impl Fn(&[u32], Move, &[u32]) -> bool) -> HashSet<Vec<u32>> {
+    let mut reached = HashSet::from([start.to_vec()]);
+    let mut latest = vec![start.to_vec()];
+    for _ in 0..moves {
         let mut next = Vec::new();
         for record in &latest {
-            for after in successors(record) {
-                if reached.insert(after.clone()) {
+            for (made, after) in successors(record) {
+                if allowed(record, made, &after) && reached.insert(after.clone()) {
                     next.push(after);
                 }
             }
         }
         latest = next;
     }
-    for record in &reached {
-        traversal(record);
-        round_trip(record);
-        well_formed_is_s7(record);
+    reached
+}
+
+/// Demand 3 as L1 words it: "no accepted navigation begun from a position lower than the noted one", "no removed row is one of the noted
+/// position's taken steps". Each time the position is the noted one again, the "noted documents still in the record" are visible as noted.
+fn noted(note: &[u32]) {
+    let place = |words: &[u32]| position(words).unwrap().0;
+    let has = |words: &[u32], document: u32| rows(words).iter().any(|row| row.document == document);
+    let history = History::of(&rows(note));
+    let taken: Vec<u32> = history.taken().into_iter().map(|step| history.documents[step].number).collect();
+    let allowed = |before: &[u32], made: Move, after: &[u32]| match made {
+        Move::Navigate => place(before) >= place(note),
+        Move::Drop => taken.iter().all(|&step| has(after, step) || !has(before, step)),
+        Move::Open | Move::Traverse => true,
+    };
+    for record in reached(note, MOVES_SINCE, allowed).iter().filter(|record| place(record) == place(note)) {
+        for row in rows(note).iter().filter(|row| has(record, row.document)) {
+            assert_eq!(visible(record, row.document), visible(note, row.document), "visible as noted");
+        }
     }
-    reached.len()
 }
 
 fn go(record: &[u32], delta: i64) -> Answer<Vec<u32>> {
@@ -40,25 +78,36 @@ fn go(record: &[u32], delta: i64) -> Answer<Vec<u32>> {
     traverse(&mut words, delta as i32, &mut [0; 4 * ROOM]).map(|_| words)
 }
 
-/// What each move gives. Numbers handed out are new, the record stays sound, and a refusal keeps every word.
-fn successors(record: &[u32]) -> Vec<Vec<u32>> {
+/// What each accepted move gives. Numbers handed out are new, the record stays sound, and a refusal keeps every word.
+fn successors(record: &[u32]) -> Vec<(Move, Vec<u32>)> {
     let mut out = Vec::new();
     for document in 0..record[1] + 1 {
-        for opens in [true, false] {
+        for made in [Move::Open, Move::Navigate] {
             let mut words = record.to_vec();
-            let new = if opens { open(&mut words, document).map(|(new, _)| new) } else { navigate(&mut words, document) };
+            let new = if made == Move::Open { open(&mut words, document) } else { navigate(&mut words, document).map(|new| (new, record[2])) };
             match new {
-                Ok(new) => {
-                    assert!(rows(record).iter().all(|row| row.document < new) && words[1] == new + 1, "a new number");
-                    out.push(words);
+                Ok((new, frame)) => {
+                    assert!(rows(record).iter().all(|row| row.document < new) && words[1] == new + 1, "a new document number");
+                    assert!(rows(record).iter().all(|row| row.frame < frame) && words[2] == frame + (made == Move::Open) as u32, "a new frame number");
+                    out.push((made, words));
                 }
                 Err(_) => assert_eq!(words, record, "a refusal keeps every word"),
             }
         }
     }
+    for frame in 0..record[2] + 1 {
+        let mut words = record.to_vec();
+        match drop_frame(&mut words, frame) {
+            Ok(_) => {
+                assert_eq!(words[1..3], record[1..3], "the next numbers stay");
+                out.push((Move::Drop, words));
+            }
+            Err(_) => assert_eq!(words, record, "a refusal keeps every word"),
+        }
+    }
     let (position, steps, _) = position(record).unwrap();
-    out.extend((-(position as i64)..=(steps - position) as i64).map(|delta| go(record, delta).unwrap()));
-    assert!(out.iter().all(|words| is_sound(words)), "sound stays sound");
+    out.extend((-(position as i64)..=(steps - position) as i64).map(|delta| (Move::Traverse, go(record, delta).unwrap())));
+    assert!(out.iter().all(|(_, words)| is_sound(words)), "sound stays sound");
     out
 }
 
@@ -92,6 +141,41 @@ fn by_the_lists(record: &[u32], delta: i64) -> Vec<u32> {
     let mut words = record.to_vec();
     write(&mut words, record[1], record[2], &history.rows());
     words
+}
+
+/// Drop is definition 2's deleting of the frame's documents, one after the other; the answer is how many went, and "the position falls by
+/// the taken steps removed".
+fn dropping(record: &[u32]) {
+    let before = rows(record);
+    for frame in 0..record[2] + 1 {
+        let mut words = record.to_vec();
+        let own: Vec<Row> = before.iter().filter(|row| row.frame == frame).copied().collect();
+        let visible = |document: u32| visible(record, document) == Ok(true);
+        let wanted = match own[..] {
+            [] => Err(4),
+            [row, ..] if row.parent == NONE => Err(10),
+            [row, ..] if !visible(row.parent) => Err(5),
+            _ => Ok(own.iter().fold(before.clone(), |left, row| deleted(&left, row.document))),
+        };
+        let removed = drop_frame(&mut words, frame);
+        assert_eq!(removed, wanted.as_ref().map(|left| (before.len() - left.len()) as u32).map_err(|&refusal| refusal));
+        if let Ok(left) = wanted {
+            assert_eq!(rows(&words), left, "the frame's documents deleted");
+            let went = |&d: &usize| !left.iter().any(|row| row.document == before[d].document);
+            let taken_gone = History::of(&before).taken().into_iter().filter(went).count() as u32;
+            assert_eq!(position(&words).unwrap().0, position(record).unwrap().0 - taken_gone, "the taken steps removed");
+        }
+    }
+}
+
+/// Definition 2: "D' = D \ {e | d →* e}".
+fn deleted(rows: &[Row], d: u32) -> Vec<Row> {
+    rows.iter().filter(|e| !leads_to(rows, d, e.document)).copied().collect()
+}
+
+/// d →* e: they are the same, or d →* the parent of e.
+fn leads_to(rows: &[Row], d: u32, e: u32) -> bool {
+    d == e || rows.iter().any(|row| row.document == e && row.parent != NONE && leads_to(rows, d, row.parent))
 }
 
 fn round_trip(record: &[u32]) {

@@ -1,4 +1,4 @@
-//! The frame history, read a second time from document 01's words and document 001's sets.
+//! The frame history, read a second time from the words of documents 01 and 02 and from document 001's sets.
 //! It is written to be clear, not fast, and shares no text with the library.
 pub mod calls;
 pub mod examples;

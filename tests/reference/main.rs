@@ -1,11 +1,11 @@
-//! reference check: P1 to P12 and document 01's small examples, computed by the reference, and laws on all small records.
+//! reference check: P1 to P12, document 01's small examples and those of document 02, computed by the reference, and laws on all small records.
 //! reference script: the script program, from standard input to standard output.
 use std::io::{Read, Write};
 
 fn main() {
     match std::env::args().nth(1).as_deref() {
         Some("check") => {
-            println!("reference: {} checks of document 01's examples hold", reference::examples::check_all());
+            println!("reference: {} checks of the documents' examples hold", reference::examples::check_all());
             println!("reference: the laws hold on {} small records", reference::laws::check_all());
         }
         Some("script") => {

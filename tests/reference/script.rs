@@ -1,5 +1,5 @@
 //! The script program: lines in, one answer line each.
-use crate::calls::{fresh, navigate, open, position, traverse};
+use crate::calls::{drop_frame, fresh, navigate, open, position, traverse};
 use crate::record::MOST_ROWS;
 
 #[derive(Clone, Copy, Debug, PartialEq, Eq)]
@@ -7,6 +7,7 @@ pub enum Line {
     Open(u32),
     Nav(u32),
     Go(i32),
+    Drop(u32),
 }
 
 /// The window of a script: a fresh record with C = 512.
@@ -29,6 +30,7 @@ impl Window {
             Line::Open(parent) => open(&mut self.words, parent).map(|(document, _frame)| document),
             Line::Nav(from) => navigate(&mut self.words, from),
             Line::Go(delta) => traverse(&mut self.words, delta, &mut changes),
+            Line::Drop(frame) => drop_frame(&mut self.words, frame),
         };
         let (position, steps, _) = position(&self.words).expect("the record stays sound");
         match outcome {
@@ -69,6 +71,9 @@ pub fn parse(line: &[u8]) -> Option<Line> {
     }
     if let Some(digits) = line.strip_prefix(b"nav ") {
         return Some(Line::Nav(u32::try_from(decimal(digits)?).ok()?));
+    }
+    if let Some(digits) = line.strip_prefix(b"drop ") {
+        return Some(Line::Drop(u32::try_from(decimal(digits)?).ok()?));
     }
     let number = line.strip_prefix(b"go ")?;
     let value = match number.strip_prefix(b"-") {

@@ -50,12 +50,13 @@ impl Maker {
         [&mut self.small, &mut self.middle, &mut self.large].into_iter().nth(pool).unwrap()
     }
 
-    /// An accepted move changes the record that the pool holds. Fresh, Load and large removals do so rarely or never,
+    /// An accepted move changes the record that the pool holds. Fresh, Load, Drop and large removals do so rarely or never,
     /// lest all records stay small.
     fn keep(&mut self, call: Call, pool: usize, entry: usize, words: &[u32]) {
         let kept = match call {
             Call::Open | Call::Traverse => true,
             Call::Navigate => pool == 0 || self.random.chance(3) || words[0] + 8 >= self.pool(pool)[entry][0],
+            Call::Drop => self.random.chance(10),
             Call::Fresh | Call::Load => pool == 0 && self.random.chance(10),
             _ => false,
         };
@@ -106,7 +107,8 @@ impl Maker {
         let mut request = blank(random, call, words);
         match call {
             Call::Fresh | Call::Position => {}
-            Call::Open | Call::Navigate | Call::Visible => request.number = document(random, &request.words),
+            Call::Open | Call::Navigate | Call::Visible => request.number = number(random, &request.words, 0, records::visible_document),
+            Call::Drop => request.number = number(random, &request.words, 1, records::frame_to_drop),
             Call::Traverse => {
                 request.number = delta(random, &request.words) as u32;
                 request.first = lent(random, needed(&request, |reply| 4 * reply.outs[0]));
@@ -194,15 +196,15 @@ fn lent(random: &mut Random, right: usize) -> Vec<u32> {
     random.words(length)
 }
 
-/// A document that is visible, or in the record, or most likely not.
-fn document(random: &mut Random, words: &[u32]) -> u32 {
+/// A document (column 0) or frame (column 1) that a sound record most likely accepts, or one of its rows', or most likely none.
+fn number(random: &mut Random, words: &[u32], column: usize, accepted: fn(&mut Random, &[u32]) -> u32) -> u32 {
     let count = words.first().map_or(0, |&count| (count as usize).min(capacity(words.len())));
     match random.below(20) {
-        0..=8 if words.len() >= 7 && is_sound(words) => records::visible_document(random, words),
-        0..=15 if count > 0 => words[3 + 4 * random.below(count)],
+        0..=8 if words.len() >= 7 && is_sound(words) => accepted(random, words),
+        0..=15 if count > 0 => words[3 + 4 * random.below(count) + column],
         16 => random.pick(&[NONE, NONE - 1, 0, 1]),
         17 if words.len() > 2 => words[random.below(3)],
-        18 if count > 0 => words[3 + 4 * random.below(count)].wrapping_add(random.pick(&[1, NONE])),
+        18 if count > 0 => words[3 + 4 * random.below(count) + column].wrapping_add(random.pick(&[1, NONE])),
         _ => random.telling_word(),
     }
 }

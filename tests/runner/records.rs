@@ -96,6 +96,13 @@ pub fn visible_document(random: &mut Random, words: &[u32]) -> u32 {
     random.pick(&visible_documents(words))
 }
 
+/// A frame that a visible document holds; the root frame where there is none.
+pub fn frame_to_drop(random: &mut Random, words: &[u32]) -> u32 {
+    let visible = visible_documents(words);
+    let held: Vec<u32> = rows(words).iter().filter(|row| visible.contains(&row.parent)).map(|row| row.frame).collect();
+    if held.is_empty() { rows(words)[0].frame } else { random.pick(&held) }
+}
+
 /// A δ from so much below the lowest to so much above the highest that the record accepts.
 pub fn delta_within(random: &mut Random, words: &[u32], beyond: i64) -> i32 {
     let (position, steps, _) = calls::position(words).unwrap_or_default();

@@ -8,6 +8,7 @@ pub enum Call {
     Open,
     Navigate,
     Traverse,
+    Drop,
     Position,
     Visible,
     Lists,
@@ -18,12 +19,12 @@ pub enum Call {
 }
 
 /// In the order of the driver's numbers.
-pub const CALLS: [Call; 11] = [
-    Call::Fresh, Call::Open, Call::Navigate, Call::Traverse, Call::Position, Call::Visible, Call::Lists, Call::Stretch, Call::Outline, Call::Save,
-    Call::Load,
+pub const CALLS: [Call; 12] = [
+    Call::Fresh, Call::Open, Call::Navigate, Call::Traverse, Call::Drop, Call::Position, Call::Visible, Call::Lists, Call::Stretch, Call::Outline,
+    Call::Save, Call::Load,
 ];
 
-/// `first` and `second` are change rows, the two lists, or pairs; `number` is a document or δ.
+/// `first` and `second` are change rows, the two lists, or pairs; `number` is a document, a frame or δ.
 #[derive(Clone)]
 pub struct Request {
     pub call: Call,
@@ -89,6 +90,7 @@ impl Request {
             Call::Open => calls::open(words, self.number).map(|(document, frame)| vec![document, frame])?,
             Call::Navigate => vec![calls::navigate(words, self.number)?],
             Call::Traverse => vec![calls::traverse(words, self.number as i32, first)?],
+            Call::Drop => vec![calls::drop_frame(words, self.number)?],
             Call::Position => calls::position(words).map(|(position, steps, length)| vec![position, steps, length])?,
             Call::Visible => vec![calls::visible(words, self.number)? as u32],
             Call::Lists => calls::lists(words, first, second).map(|(taken, upcoming)| vec![taken, upcoming])?,

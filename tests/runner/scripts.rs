@@ -1,15 +1,17 @@
 //! Random scripts for the script program, and the comparison of what it prints with what the reference prints.
 use crate::random::Random;
-use crate::records::{delta_within, visible_document};
+use crate::records::{delta_within, frame_to_drop, visible_document};
 use reference::script::{output, Window};
 use std::io::{Read, Write};
 use std::process::{Command, Stdio};
 
 /// Lines that are `bad` for one small reason each.
-const BAD: [&str; 36] = [
+const BAD: [&str; 50] = [
     "", " ", "open", "nav", "go", "open ", "nav ", "go ", "open  0", "open 0 ", " open 0", "open\t0", "Open 0", "OPEN 0", "opens 0", "open 00", "open 01",
     "open +1", "open -1", "open -0", "open 4294967296", "nav 4294967300", "nav 18446744073709551616", "nav 0x1", "nav 1.0", "nav 1,", "nav 0\r", "go -0",
     "go +1", "go 2147483648", "go -2147483649", "go --1", "go -", "go - 1", "go -01", "navigate 0",
+    "drop", "drop ", "drop  1", "drop 1 ", " drop 1", "drop\t1", "Drop 1", "drops 1", "drop 01", "drop +1", "drop -1", "drop -0", "drop 4294967296",
+    "drop 1\r",
 ];
 
 /// A script of so many lines, and what the reference prints for it. It follows the window that the reference keeps,
@@ -17,10 +19,17 @@ const BAD: [&str; 36] = [
 pub fn script(random: &mut Random, lines: usize) -> (Vec<u8>, Vec<u8>) {
     let mut window = Window::new();
     let (mut text, mut answers) = (Vec::new(), Vec::new());
-    let bad_share = random.pick(&[0, 2, 10, 60]);
-    let widest_go = random.pick(&[1, 3, 600]);
+    // A long script goes back and drops so little that the table gets full.
+    let (bad_share, drop_share, widest_go) =
+        if lines > 1000 { (2, 1, 1) } else { (random.pick(&[0, 2, 10, 60]), random.pick(&[0, 3, 15]), random.pick(&[1, 3, 600])) };
     for _ in 0..lines {
-        let line = if random.chance(bad_share) { bad_line(random) } else { good_line(random, &window.words, widest_go) };
+        let line = if random.chance(bad_share) {
+            bad_line(random)
+        } else if random.chance(drop_share) {
+            drop_line(random, &window.words)
+        } else {
+            good_line(random, &window.words, widest_go)
+        };
         answers.extend(window.answer(&line).bytes());
         answers.push(b'\n');
         text.extend(line);
@@ -51,20 +60,29 @@ fn good_line(random: &mut Random, words: &[u32], widest_go: i64) -> Vec<u8> {
     line.into_bytes()
 }
 
+fn drop_line(random: &mut Random, words: &[u32]) -> Vec<u8> {
+    let frame = match random.below(10) {
+        0 => random.telling_word(),
+        1 | 2 => random.below(words[2] as usize + 2) as u32,
+        _ => frame_to_drop(random, words),
+    };
+    format!("drop {frame}").into_bytes()
+}
+
 fn bad_line(random: &mut Random) -> Vec<u8> {
     let length = random.pick(&[1, 10, 63, 64, 65, 66, 128, 4096, 70_000]);
     match random.below(8) {
         0..=3 => random.pick(&BAD).into(),
         // Digits up to and past the longest line, zeros in front among them.
-        4 => [b"nav ".as_slice(), &vec![random.pick(b"0123456789"); length]].concat(),
+        4 => [random.pick(&["nav ", "drop "]).as_bytes(), &vec![random.pick(b"0123456789"); length]].concat(),
         // A good line's text and then too much of it.
         5 => [b"open 0".as_slice(), &vec![random.pick(b" 0x\r\0"); length]].concat(),
         6 => random.bytes(length).into_iter().filter(|&byte| byte != b'\n').collect(),
         _ => {
             // A good line with one byte changed; it may stay good.
-            let mut line = random.pick(&["open 0", "nav 12", "go -1", "go 1", "nav 4294967295", "go -2147483648"]).as_bytes().to_vec();
+            let mut line = random.pick(&["open 0", "nav 12", "go -1", "go 1", "nav 4294967295", "go -2147483648", "drop 1"]).as_bytes().to_vec();
             let at = random.below(line.len());
-            line[at] = random.pick(b" 0129-+/:agno\0\xff\r");
+            line[at] = random.pick(b" 0129-+/:agnop\0\xff\r");
             line
         }
     }

@@ -1,7 +1,11 @@
-//! The table of document 01, "Nine ways to say no", and a count of what occurred of it.
+//! The table of document 01, "Nine ways to say no", with document 02's refusal 10, and a count of what occurred of it.
 use crate::request::{Call, Request, CALLS};
 use reference::sound::broken;
 use std::collections::BTreeMap;
+use std::ops::RangeInclusive;
+
+/// Acceptance, and the numbers of the refusals.
+const NUMBERS: RangeInclusive<u32> = 0..=10;
 
 /// Whether the table lets this call give this refusal; 0 stands for acceptance.
 pub fn allowed(call: Call, refusal: u32) -> bool {
@@ -11,12 +15,13 @@ pub fn allowed(call: Call, refusal: u32) -> bool {
         1 => call != Stretch,
         2 => !matches!(call, Fresh | Load | Stretch),
         3 => call == Load,
-        4 => matches!(call, Open | Navigate | Visible),
-        5 => matches!(call, Open | Navigate),
+        4 => matches!(call, Open | Navigate | Drop | Visible),
+        5 => matches!(call, Open | Navigate | Drop),
         6 => matches!(call, Traverse | Stretch),
         7 => matches!(call, Open | Navigate | Load),
         8 => matches!(call, Open | Navigate),
         9 => matches!(call, Traverse | Lists | Outline | Save),
+        10 => call == Drop,
         _ => false,
     }
 }
@@ -58,9 +63,9 @@ impl Seen {
 
     /// The pairs of the table, those of Traverse with change rows as structs, and the clauses of soundness (each failing alone) that did not occur.
     pub fn missing(&self) -> Vec<String> {
-        let pairs = CALLS.iter().flat_map(|&call| (0..=9).map(move |refusal| (call, refusal)));
+        let pairs = CALLS.iter().flat_map(|&call| NUMBERS.map(move |refusal| (call, refusal)));
         let pairs = pairs.filter(|&(call, refusal)| allowed(call, refusal) && !self.pairs.contains_key(&(call, refusal)));
-        let structs = (0..=9).filter(|&refusal| allowed(Call::Traverse, refusal) && !self.structs.contains_key(&refusal));
+        let structs = NUMBERS.filter(|&refusal| allowed(Call::Traverse, refusal) && !self.structs.contains_key(&refusal));
         let clauses = (1..=8).filter(|clause| !self.clauses.contains_key(clause));
         pairs
             .map(|(call, refusal)| format!("{call:?} giving {refusal}"))
@@ -71,7 +76,7 @@ impl Seen {
 
     pub fn print(&self) {
         for call in CALLS {
-            let counts = (0..=9).filter_map(|refusal| self.pairs.get(&(call, refusal)).map(|count| format!("{refusal}: {count}")));
+            let counts = NUMBERS.filter_map(|refusal| self.pairs.get(&(call, refusal)).map(|count| format!("{refusal}: {count}")));
             let differing = self.differing.get(&call).map(|count| format!("  DIFFERENT: {count}")).unwrap_or_default();
             println!("  {:10} {}{differing}", format!("{call:?}"), counts.collect::<Vec<_>>().join("  "));
         }
