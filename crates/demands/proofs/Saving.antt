@@ -2,7 +2,7 @@
 use Prim.Native.Nat.{ℕ, _+_, _≤_}
 use mathlib.Core.Bool.{not, So}
 use mathlib.Core.List.{List, [], _∷_}
-use mathlib.Core.Logic.{_↔_, inl, inr, ⊎-elim}
+use mathlib.Core.Logic.{inl, inr, ⊎-elim}
 use mathlib.Core.Path.{_≡_, refl, sym, ap, ap₂, subst, _∙_}
 use native.Mathlib.Omega.{arith}
 use lib.ListN.{length, getD, take, drop}
@@ -21,7 +21,7 @@ use Rattle.laws.proofs.Trips.{loaded-saved}
 use Rattle.laws.proofs.Loads.{in-room, from-save-is, from-save-in}
 use Rattle.demands.specs.Record.{Words32, Accepted}
 use Rattle.demands.specs.Standing.{left}
-use Rattle.demands.specs.Refuses.{NotSaved, lines, First, HoldsIn}
+use Rattle.demands.specs.Refuses.{lines, First, HoldsIn}
 use Rattle.demands.specs.Saving.{Writes, UndoEachOther}
 use Rattle.demands.proofs.Accepted.{accepted-none, made, by-move}
 use Rattle.demands.proofs.Lasting.{long, made-lasting}

@@ -35,7 +35,7 @@ NoneBelow words moves =
     (before rest : List Move) (d : ℕ) → moves ≡ before ++ Move.navigates d ∷ rest → Accepted (on (run words before) (Move.navigates d)) →
     positionIn words ≤ positionIn (run words before)
 
--- "any opens, navigations and traversals [..], refused ones among them, with" these premises, and drops (document 02, L1).
+-- "any opens, navigations and traversals [..], refused ones among them", and drops (document 02, L1), with these premises.
 pub record MayFollow (words : List ℕ) (moves : List Move) : Type 0 where
   pub none-below : NoneBelow words moves
   -- "sequences in which no removed row is one of the noted position's taken steps"

@@ -405,6 +405,10 @@ next d f = holding 2 (row 0 0 none 1 ∷ []) d f
 abbrev left : List ℕ
 left = holding 2 (row 0 0 none 0 ∷ row 1 0 none 1 ∷ []) 2 1
 
+-- Frame 0 lies in the document of frame 1; the table is full, and all numbers are used.
+abbrev swapped : List ℕ
+swapped = holding 2 (row 0 1 none 1 ∷ row 1 0 0 1 ∷ []) none none
+
 -- A record that Position refuses as unsound.
 abbrev unsound : List ℕ → Small
 unsound words = small (Call.Position words) (no 2) []
@@ -454,6 +458,9 @@ smalls =
     ∷ small (Call.Drop left 1) (no 4) (left ∷ [])
     ∷ small (Call.Drop left 0) (no 10) (left ∷ [])
     ∷ small (Call.Drop underHidden 2) (no 5) (underHidden ∷ [])
+    -- The root frame is the one without a parent, whatever its number. No next number and no row more is needed.
+    ∷ small (Call.Drop swapped 1) (no 10) (swapped ∷ [])
+    ∷ small (Call.Drop swapped 0) (ok 1) (holding 2 (row 0 1 none 1 ∷ []) none none ∷ [])
     -- 1 and 2 come before all three.
     ∷ small (Call.Drop (replicate 6 0) 0) (no 1) (replicate 6 0 ∷ [])
     ∷ small (Call.Drop nine 9) (no 2) (nine ∷ [])
