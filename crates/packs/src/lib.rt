@@ -12,7 +12,7 @@ ghost use Rattle.rules.specs.Below.{someBelow};
 ghost use Rattle.rules.specs.Rows.{docAt, isDoc};
 ghost use Rattle.rules.specs.Words.{put, rowsOf};
 ghost use Rattle.reads.specs.Within.{Before, Within};
-ghost use Rattle.packs.specs.Packing.{parentKept, Moved, ended};
+ghost use Rattle.packs.specs.Packing.{docKept, parentKept, Moved, ended};
 
 // Whether a row has no parent, or one of the first k rows holds it.
 pub fn parent_kept(words: &[u32], at: RowPlace, k: usize) -> bool
@@ -27,6 +27,23 @@ pub fn parent_kept(words: &[u32], at: RowPlace, k: usize) -> bool
         Found::At(_) => true,
         Found::Nothing => false,
     }
+}
+
+// The same of a row that is not the first, where it is known of the row before: whether that has no parent or a kept one, and whether its document is kept. A row beside
+// or beneath it needs no look.
+pub fn parent_kept_after(words: &[u32], at: RowPlace, k: usize, beside: bool, beneath: bool) -> bool
+    requires { ⌜ Within (now words) (at .0) × (k < at .0) × (beside ≡ parentKept (rowsOf (now words)) k (at .0 - 1)) × (beneath ≡ docKept (rowsOf (now words)) k (docAt (rowsOf (now words)) (at .0 - 1))) ⌝ }
+    ensures { λ r. ⌜ r ≡ parentKept (rowsOf (now (words .entry))) k (at .0) ⌝ }
+{
+    let up = reads::parent(words, at);
+    let before = RowPlace(at.0 - 1);
+    if up.0 == reads::parent(words, before).0 {
+        return beside;
+    }
+    if up.0 == reads::document(words, before).0 {
+        return beneath;
+    }
+    parent_kept(words, at, k)
 }
 
 // Moves a row down behind the k rows kept so far if it stays. How many are kept then.
