@@ -1,24 +1,24 @@
 // Drop: a frame is taken out by its number, with all beneath it.
 //
-// What bounds it, for n rows: one pass over them, up to the frame's first row in search of it and from there on closing the gaps. On the way each row that is not the frame's
-// own looks back for its parent among the rows kept so far, and not at all where the row before it is that parent or has the same.
+// What bounds it, for n rows: one pass over them, up to the frame's first row in search of it and from there on closing the gaps. On the way a row looks back for its parent
+// among the rows kept so far, and not at all where that is the parent found last or the one missed last.
+use base::DocNo;
 use base::FrameNo;
 use base::Refusal;
 use base::RowPlace;
 use reads::NONE;
 use sound::Check;
 ghost use mathlib.Core.Path.{_≡_};
-ghost use mathlib.Core.Bool.{So};
+ghost use mathlib.Core.Bool.{cond};
 ghost use mathlib.Core.List.{[], _∷_};
 ghost use Prim.Native.Nat.{_-_, _≤_, _<_};
 ghost use lib.ListN.{length};
-ghost use Rattle.rules.specs.Rows.{none, docAt, inFrame};
+ghost use Rattle.rules.specs.Rows.{none, inFrame};
 ghost use Rattle.rules.specs.Moves.{without, dropped};
 ghost use Rattle.rules.specs.Words.{tableOf, rowsOf, written};
 ghost use Rattle.rules.specs.Calls.{Call, refusals, NoneGiven, outcome};
-ghost use Rattle.reads.specs.Within.{Within};
 ghost use Rattle.sound.specs.Check.{Examined, Judged};
-ghost use Rattle.packs.specs.Packing.{docKept, parentKept, Over};
+ghost use Rattle.packs.specs.Packing.{Over};
 ghost use Rattle.drops.specs.Answers.{droppedIs};
 ghost use Rattle.drops.specs.Frames.{firstRow};
 
@@ -57,23 +57,11 @@ fn judge(words: &[u32], frame: FrameNo, first: RowPlace) -> Check
     Check::Sound
 }
 
-// Whether a row has no parent or one of the first k rows holds it, where these are the rows kept so far and that is known of the row before: the frame's own rows have one that stays.
-fn parent_stays(
-    words: &[u32],
-    at: RowPlace,
-    k: usize,
-    frame: FrameNo,
-    beside: bool,
-    beneath: bool,
-) -> bool
-    requires { ⌜ Within (now words) (at .0) × (k < at .0) × (beside ≡ parentKept (rowsOf (now words)) k (at .0 - 1)) × (beneath ≡ docKept (rowsOf (now words)) k (docAt (rowsOf (now words)) (at .0 - 1)))
-        × (So (inFrame (rowsOf (now words)) (frame .0) (at .0)) → So (parentKept (rowsOf (now words)) k (at .0))) ⌝ }
-    ensures { λ r. ⌜ r ≡ parentKept (rowsOf (now (words .entry))) k (at .0) ⌝ }
+// One document or the other.
+fn either(first: bool, a: DocNo, b: DocNo) -> DocNo
+    ensures { λ r. ⌜ r .0 ≡ cond first (a .0) (b .0) ⌝ }
 {
-    if reads::frame(words, at).0 == frame.0 {
-        return true;
-    }
-    packs::parent_kept_after(words, at, k, beside, beneath)
+    if first { a } else { b }
 }
 
 // Removes what goes and closes the gaps: the rows before the frame's first stay where they are, and that one goes. How many rows stay.
@@ -82,15 +70,18 @@ fn close_gaps(words: &mut [u32], first: RowPlace, frame: FrameNo) -> usize
     ensures { λ r. ⌜ Over (without (inFrame (rowsOf (now (words .entry))) (frame .0)) (rowsOf (now (words .entry)))) (now (words .entry)) r (now (words .exit)) ⌝ }
 {
     let n = rows::row_count(words);
+    let mut found = reads::parent(words, first);
+    let mut missed = reads::document(words, first);
     let mut k = first.0;
-    let mut upheld = true;
-    let mut stays = false;
     let mut i = first.0 + 1;
     while i < n {
         let at = RowPlace(i);
-        upheld = parent_stays(words, at, k, frame, upheld, stays);
-        stays = (reads::frame(words, at).0 != frame.0) & upheld;
+        let up = reads::parent(words, at);
+        let upheld = packs::parent_known(words, at, k, found, missed);
+        let stays = (reads::frame(words, at).0 != frame.0) & upheld;
         k = packs::keep_row(words, at, k, stays);
+        found = either(upheld, up, found);
+        missed = either(upheld, missed, up);
         i += 1;
     }
     k

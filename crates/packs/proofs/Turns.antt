@@ -38,9 +38,9 @@ module _ (rows : List Row) (k i up : ℕ) (named : up ≡ parentAt rows i) where
     pub kept-lost : f ≡ Nothing → false ≡ parentKept rows k i
     kept-lost e = kept-scan false (none-found (isDoc rows up) k f scan e)
 
--- What is known of a row before, whose parent or document d it is.
-pub kept-told : (rows : List Row) (k i up d x : ℕ) → up ≡ parentAt rows i → (b : Bool) → b ≡ docKept rows k d → x ≡ d → up ≡ x → b ≡ parentKept rows k i
-kept-told rows k i up d x named b h e s = h ∙ ap (docKept rows k) (sym e ∙ sym s ∙ named)
+-- What is known of a document is known of a row with it for its parent.
+pub kept-told : (rows : List Row) (k i up d : ℕ) → up ≡ parentAt rows i → (b : Bool) → docKept rows k d ≡ b → up ≡ d → b ≡ parentKept rows k i
+kept-told rows k i up d named b h s = sym h ∙ ap (docKept rows k) (sym s ∙ named)
 
 module _ (rows : List Row) (k d : ℕ) (f : Found) (scan : f ≡ foundBelow (isDoc rows d) k) where
   -- The row found holds the document.

@@ -5,7 +5,7 @@ use base::RowPlace;
 use reads::Found;
 use reads::NONE;
 ghost use mathlib.Core.Path.{_≡_};
-ghost use mathlib.Core.Bool.{So};
+ghost use mathlib.Core.Bool.{true, false, So};
 ghost use Prim.Native.Nat.{_+_, _-_, _*_, _<_, _≤_};
 ghost use lib.ListN.{length, replicate};
 ghost use Rattle.rules.specs.Below.{someBelow};
@@ -29,19 +29,17 @@ pub fn parent_kept(words: &[u32], at: RowPlace, k: usize) -> bool
     }
 }
 
-// The same of a row that is not the first, where it is known of the row before: whether that has no parent or a kept one, and whether its document is kept. A row beside
-// or beneath it needs no look.
-pub fn parent_kept_after(words: &[u32], at: RowPlace, k: usize, beside: bool, beneath: bool) -> bool
-    requires { ⌜ Within (now words) (at .0) × (k < at .0) × (beside ≡ parentKept (rowsOf (now words)) k (at .0 - 1)) × (beneath ≡ docKept (rowsOf (now words)) k (docAt (rowsOf (now words)) (at .0 - 1))) ⌝ }
+// The same, where one document is known to be none or held by the first k rows, and another not to be: a row with one of them for its parent needs no look.
+pub fn parent_known(words: &[u32], at: RowPlace, k: usize, found: DocNo, missed: DocNo) -> bool
+    requires { ⌜ Within (now words) (at .0) × (k ≤ at .0) × (docKept (rowsOf (now words)) k (found .0) ≡ true) × (docKept (rowsOf (now words)) k (missed .0) ≡ false) ⌝ }
     ensures { λ r. ⌜ r ≡ parentKept (rowsOf (now (words .entry))) k (at .0) ⌝ }
 {
     let up = reads::parent(words, at);
-    let before = RowPlace(at.0 - 1);
-    if up.0 == reads::parent(words, before).0 {
-        return beside;
+    if up.0 == found.0 {
+        return true;
     }
-    if up.0 == reads::document(words, before).0 {
-        return beneath;
+    if up.0 == missed.0 {
+        return false;
     }
     parent_kept(words, at, k)
 }

@@ -1,19 +1,26 @@
 -- `drops::close_gaps` meets its contract. Assumes nothing.
-use Prim.Native.Nat.{_≤_, _-_}
+use Prim.Native.Nat.{_≤_, _<_, _-_}
 use mathlib.Core.Path.{refl}
 use native.Mathlib.Omega.{arith}
 use borrow.Author.Needs.{needs}
 use denote.Ref.{now}
+use lib.ListN.{length}
+use Rattle.rules.specs.Words.{rowsOf}
+use Rattle.sound.proofs.Checks.{examined-fits}
 use Rattle.packs.proofs.Over.{over-size}
 use Rattle.drops.proofs.Gaps.{Turned, turn-start, turn-asks, turn-moves, turn-done, turn-end}
 use Rattle.drops.proofs.close_gaps.Statement.{statement}
 use Rattle.drops.proofs.close_gaps.Tie as tie
 
 abbrev Inv-loop : tie.InvT-loop
-Inv-loop words₀ frame n k₀ upheld₀ stays₀ i₀ words k upheld stays i = (i ≤ n) × Turned words₀ (frame .0) i k words upheld stays
+Inv-loop words₀ frame n found₀ missed₀ k₀ i₀ words found missed k i = (i ≤ n) × Turned words₀ (frame .0) i k words (found .0) (missed .0)
 
 abbrev μ-loop : tie.MeasureT-loop
-μ-loop words₀ frame n k₀ upheld₀ stays₀ i₀ words k upheld stays i = n - i
+μ-loop words₀ frame n found₀ missed₀ k₀ i₀ words found missed k i = n - i
+
+-- There is a row yet.
+more : (c : tie.In-loop Inv-loop μ-loop) → c .before .loop .i < length (rowsOf (now (c .before .before .before .before .before .before .before .before .before .before .args .words)))
+more c = omega (arith, c .before .before .before .before .before .before .before .row-count .ensures)
 
 pub close-gaps-spec : {M : Type 1} → statement M
 close-gaps-spec =
@@ -21,37 +28,43 @@ close-gaps-spec =
     Inv-loop
     μ-loop
     (λ c κs. search needs)
-    (λ c. let c1 = c .before in
-    let c4 = c1 .before .before .before in
-    let p = c4 .pre in omega (arith, p .3, c1 .row-count .ensures))
-    (λ c. let c1 = c .before in
-    let c4 = c1 .before .before .before in
-    let p = c4 .pre in (omega (arith, p .3, c1 .row-count .ensures), turn-start (now (c4 .args .words)) (p .0) (p .1) _ _ (p .2) (p .3)))
-    (λ c κs. let c2 = c .before .before in
-    let c4 = c2 .before .before in
-    let c7 = c4 .before .before .before in
-    let p = c7 .pre in turn-asks (now (c7 .args .words)) (p .0) (p .1) _ _ (p .2) (p .3) _ _ _ _ _ (c2 .loop .inv .1) (omega (arith, c4 .row-count .ensures)))
-    (λ c κs. let c4 = c .before .before .before .before in
-    let c6 = c4 .before .before in
-    let c9 = c6 .before .before .before in
-    let p = c9 .pre in turn-moves (now (c9 .args .words)) (p .0) (p .1) _ _ (p .2) (p .3) _ _ _ _ _ (c4 .loop .inv .1) (omega (arith, c6 .row-count .ensures)) .0)
-    (λ c κs. let c8 = c .before .before .before .before .before .before .before .before in
-    let c10 = c8 .before .before in
-    let c13 = c10 .before .before .before in
-    let p = c13 .pre in turn-moves (now (c13 .args .words)) (p .0) (p .1) _ _ (p .2) (p .3) _ _ _ _ _ (c8 .loop .inv .1) (omega (arith, c10 .row-count .ensures)))
+    (λ c κs. let s = c .before .before .before .before in record { fits = examined-fits (now (s .args .words)) (s .pre .0); below = s .pre .3 })
+    (λ c κs. let s = c .before .before .before .before .before .before in record { fits = examined-fits (now (s .args .words)) (s .pre .0); below = s .pre .3 })
+    (λ c. let s = c .before .before .before .before .before .before .before .before in omega (arith, s .pre .3, c .before .before .before .before .before .row-count .ensures))
+    (λ c. let document = c .before in
+    let parent = document .before .before in
+    let s = parent .before .before .before .before .before in
+    (omega (arith, s .pre .3, parent .before .before .row-count .ensures), turn-start (now (s .args .words)) (s .pre .0) (s .pre .1) _ _ (s .pre .2) (s .pre .3) _ _ (parent .parent .ensures) (document .document .ensures)))
+    (λ c κs. let at = c .before .before in
+    let s = at .before .before .before .before .before .before .before .before .before in
+    turn-moves (now (s .args .words)) (s .pre .0) (s .pre .1) _ _ (s .pre .2) (s .pre .3) _ _ _ _ _ (at .loop .inv .1) (more (c .before)) .0)
+    (λ c κs. let at = c .before .before .before .before in
+    let s = at .before .before .before .before .before .before .before .before .before in
+    turn-asks (now (s .args .words)) (s .pre .0) (s .pre .1) _ _ (s .pre .2) (s .pre .3) _ _ _ _ _ (at .loop .inv .1) (more (c .before .before .before)))
+    (λ c κs. let at = c .before .before .before .before .before .before in
+    let s = at .before .before .before .before .before .before .before .before .before in
+    turn-moves (now (s .args .words)) (s .pre .0) (s .pre .1) _ _ (s .pre .2) (s .pre .3) _ _ _ _ _ (at .loop .inv .1) (more (c .before .before .before .before .before)) .0)
+    (λ c κs. let at = c .before .before .before .before .before .before .before .before .before .before in
+    let s = at .before .before .before .before .before .before .before .before .before in
+    turn-moves (now (s .args .words)) (s .pre .0) (s .pre .1) _ _ (s .pre .2) (s .pre .3) _ _ _ _ _ (at .loop .inv .1) (more (c .before .before .before .before .before .before .before .before .before)))
+    (λ c κs. search needs)
+    (λ c κs. search needs)
+    (λ c. let l = more (c .before .before .before .before .before .before .before .before .before .before .before .before .before .before) in
+    let s = c .before .before .before .before .before .before .before .before .before .before .before .before .before .before .before .before .before .before .before .before .before .before .before .before in
+    let m = examined-fits (now (s .args .words)) (s .pre .0) in search needs)
     (λ c. search needs)
-    (λ c. search needs)
-    (λ c. let c2 = c .before .before in
-    let c6 = c2 .before .before .before .before in
-    let c8 = c6 .before .before in
-    let c11 = c8 .before .before .before in
-    let c13 = c11 .before .before in
-    let c16 = c13 .before .before .before in
-    let p = c16 .pre in
-    (omega arith, turn-done (now (c16 .args .words)) (p .0) (p .1) _ _ (p .2) (p .3) _ _ _ _ _ (c11 .loop .inv .1) (omega (arith, c13 .row-count .ensures)) _ _ _ _ _ (c8 .parent-stays .ensures) (c6 .frame .ensures) refl (c2 .keep-row .ensures)))
-    (λ c. let c1 = c .before in
-    over-size _ _ _ _ (c1 .loop .inv .1 .packed))
-    (λ c. let c1 = c .before in
-    let c3 = c1 .before .before in
-    let c6 = c3 .before .before .before in
-    let p = c6 .pre in turn-end (now (c6 .args .words)) (p .0) (p .1) _ _ (p .2) (p .3) _ _ _ _ _ (c1 .loop .inv .1) (omega (arith, c3 .row-count .ensures)) (omega (arith, c3 .row-count .ensures))))
+    (λ c. let keep = c .before .before .before .before in
+    let frame = keep .before .before .before .before in
+    let known = frame .before .before in
+    let parent = known .before .before in
+    let at = parent .before .before .before in
+    let s = at .before .before .before .before .before .before .before .before .before in (
+      omega arith,
+      turn-done (now (s .args .words)) (s .pre .0) (s .pre .1) _ _ (s .pre .2) (s .pre .3) _ _ _ _ _ (at .loop .inv .1) (more (parent .before .before)) _ (parent .parent2 .ensures) _ (known .parent-known .ensures)
+          _ _ _ _ _ _ (frame .frame .ensures) refl (keep .keep-row .ensures) (c .before .either .ensures) (c .either2 .ensures),
+    ))
+    (λ c. over-size _ _ _ _ (c .before .loop .inv .1 .packed))
+    (λ c. let at = c .before in
+    let s = at .before .before .before .before .before .before .before .before .before in
+    let n = at .before .before .before .before .before .before .row-count .ensures in
+    turn-end (now (s .args .words)) (s .pre .0) (s .pre .1) _ _ (s .pre .2) (s .pre .3) _ _ _ _ _ (at .loop .inv .1) (omega arith) (omega arith)))
