@@ -27,17 +27,10 @@ module _ (q : ℕ → Bool) (rows : List Row) where
   unfolding gone
   stays-split i = test (q i) (λ t. rw t refl) (λ f. rw f refl)
 
-  -- Before every row that passes all stay, and nothing above the first that does goes.
+  -- Before every row that passes all stay.
   module _ (u : ℕ) (none-before : (v : ℕ) → v < u → q v ≡ false) where
     pub early-stays : (i : ℕ) → i < u → So (stays q rows i)
     early-stays i l = stays-in q rows i (λ g. let v = gone-later q rows (suc i) i (omega arith) g in clash (v .2) (none-before (v .0) (omega arith)))
-
-    pub early-upheld : So (upheld u)
-    unfolding gone
-    early-upheld =
-        rw (off (climb false (beneathAsk q rows) rows u (parentAt rows u)) (λ h.
-        let r = climb-out (beneathAsk q rows) rows u (parentAt rows u) h in
-        clash (r .3) (not-true _ (early-stays (r .0) (r .1))))) refl
 
   -- What a turn at row i is told by the rows kept so far.
   module _ {a b : ℕ} (t : TreeOf rows a b) (new : List Row) (i k : ℕ) (below : i < length rows) (see : Sees (stays q rows) rows new i k) where
