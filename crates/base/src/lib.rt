@@ -1,4 +1,4 @@
-// The numbers that are kept apart, the nine ways to say no, and the magnitude of a signed amount.
+// The numbers that are kept apart, the ways to say no, and the magnitude of a signed amount.
 ghost use mathlib.Core.Path.{_≡_};
 ghost use lib.IntN.{natAbs};
 ghost use Rattle.base.specs.Numbers.{numberOf};
@@ -14,7 +14,7 @@ pub struct FrameNo(pub u32);
 // The place of a row in the record, counted from 0.
 pub struct RowPlace(pub usize);
 
-// Why a call is refused, by the paper's table "Nine ways to say no".
+// Why a call is refused, by the paper's table "Nine ways to say no" with what document 02 adds.
 pub enum Refusal {
     // record under 7 words
     ShortRecord,
@@ -22,9 +22,9 @@ pub enum Refusal {
     Unsound,
     // saved bytes are not such bytes
     NotSaved,
-    // document not in the record
+    // document not in the record; for removal, the frame
     Absent,
-    // document there, not visible
+    // document there, not visible; for removal, the one that holds the frame
     Hidden,
     // position + delta below 0 or above steps; a list shorter than the magnitude of delta
     Beyond,
@@ -34,6 +34,8 @@ pub enum Refusal {
     UsedUp,
     // a lent answer buffer is too short
     ShortBuffer,
+    // the root frame cannot be taken out
+    RootFrame,
 }
 
 // The paper's number of a refusal.
@@ -50,6 +52,7 @@ pub fn refusal_number(refusal: Refusal) -> u32
         Refusal::Full => 7,
         Refusal::UsedUp => 8,
         Refusal::ShortBuffer => 9,
+        Refusal::RootFrame => 10,
     }
 }
 

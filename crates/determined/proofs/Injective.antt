@@ -7,7 +7,7 @@ use mathlib.Mathlib.Logic.Function.Defs.{Injective, LeftInverse, LeftInverse·in
 use lib.Dec.{eqb}
 use lib.ListN.{getD}
 use Rattle.base.specs.declared.Refusal.{Refusal}
-use Rattle.base.specs.declared.Refusal.the-variants.{ShortRecord, Unsound, NotSaved, Absent, Hidden, Beyond, Full, UsedUp, ShortBuffer}
+use Rattle.base.specs.declared.Refusal.the-variants.{ShortRecord, Unsound, NotSaved, Absent, Hidden, Beyond, Full, UsedUp, ShortBuffer, RootFrame}
 use Rattle.base.specs.Numbers.{numberOf}
 use Rattle.rules.specs.Calls.{Answer}
 use Rattle.moves.specs.declared.Freshened.the-variants as Freshens
@@ -38,7 +38,7 @@ use Rattle.lines.specs.Reply.{Said, replyIs}
 -- The refusal that a number is given for.
 refusalBy : ℕ → Refusal
 refusalBy k =
-    getD (ShortRecord ∷ ShortRecord ∷ Unsound ∷ NotSaved ∷ Absent ∷ Hidden ∷ Beyond ∷ Full ∷ UsedUp ∷ ShortBuffer ∷ []) k ShortRecord
+    getD (ShortRecord ∷ ShortRecord ∷ Unsound ∷ NotSaved ∷ Absent ∷ Hidden ∷ Beyond ∷ Full ∷ UsedUp ∷ ShortBuffer ∷ RootFrame ∷ []) k ShortRecord
 
 -- It is the refusal that has the number.
 number-back : LeftInverse refusalBy numberOf
@@ -52,6 +52,7 @@ number-back Beyond = refl
 number-back Full = refl
 number-back UsedUp = refl
 number-back ShortBuffer = refl
+number-back RootFrame = refl
 
 -- No two refusals have one number.
 pub number-injective : Injective numberOf

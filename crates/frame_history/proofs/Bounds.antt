@@ -1,5 +1,5 @@
 -- The counts that a call gives fit in an out word. Assumes nothing.
-use Prim.Native.Nat.{ℕ, _*_, _/_, _≤_}
+use Prim.Native.Nat.{ℕ, _-_, _*_, _/_, _≤_}
 use mathlib.Core.List.{List, [], _∷_, flatMap}
 use mathlib.Core.Path.{_≡_, refl, sym, ap, _∙_}
 use native.Mathlib.Omega.{arith}
@@ -11,7 +11,7 @@ use mir.Val.{SFits}
 use borrow.Author.Tests.{ltb-false, not-false}
 use Rattle.rules.specs.Rows.{Row, Table, none}
 use Rattle.rules.specs.Steps.{position, steps}
-use Rattle.rules.specs.Moves.{walked, frames, changeRow, changes, shownDoc}
+use Rattle.rules.specs.Moves.{walked, dropped, frames, changeRow, changes, shownDoc}
 use Rattle.rules.specs.Words.{capacity, tableOf, rowsOf}
 use Rattle.rules.specs.Asks.{takenList, upcomingList, outlineOf}
 use Rattle.rules.specs.Saved.{saved, loaded}
@@ -76,6 +76,16 @@ module _ (words : List ℕ) (a : Answer) (runs : List (List ℕ)) where
       let k = taken-length (rowsOf words) (s .s6) (s .s7) in
       let n = upcoming-length (rowsOf words) (s .s6) (s .s7) in
       (omega arith, omega arith)
+
+  -- The rows that a removal takes.
+  pub drop-small : (f n : ℕ) → outcome (Call.Drop words f) ≡ record { answer = a; lent = runs } → a ≡ Answer.gives (n ∷ []) → n ≤ 512
+  unfolding refusals NoneGiven accepted
+  drop-small f n e g =
+      let h = not-refused (Call.Drop words f) a runs _ e g in
+      let v = given-is (Call.Drop words f) a runs _ e g in
+      let x : length (rowsOf words) - length (dropped (tableOf words) f .rows) ≡ n = ap (value 0) v in
+      let m = sound-is words .0 (not-false _ (h .1 .0)) .table .s1 .fits in
+      omega arith
 
   -- The rows of loaded bytes.
   pub load-small : (bytes : List ℕ) (n : ℕ) → outcome (Call.Load words bytes) ≡ record { answer = a; lent = runs } → a ≡ Answer.gives (n ∷ []) → n ≤ 512

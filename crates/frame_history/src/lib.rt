@@ -4,7 +4,9 @@ use asks::Sight;
 use asks::Standing;
 use asks::Stretched;
 use base::DocNo;
+use base::FrameNo;
 use changes::ChangeRow;
+use drops::Dropped;
 use loads::Loading;
 use moves::Freshened;
 use moves::Opened;
@@ -62,6 +64,21 @@ pub extern "C" fn frame_history_navigate(words: &mut [u32], from: u32, document:
             0
         }
         Navigated::Refused(r) => base::refusal_number(r),
+    }
+}
+
+// Takes a frame out, with all beneath it: how many rows went.
+#[no_mangle]
+pub extern "C" fn frame_history_drop(words: &mut [u32], frame: u32, removed: &mut u32) -> u32
+    ensures { λ r. ⌜ face (outcome (Call.Drop (now (words .entry)) frame)) (now (removed .entry) ∷ [])
+        ≡ record { number = r; outs = now (removed .exit) ∷ []; lent = now (words .exit) ∷ [] } ⌝ }
+{
+    match drops::drop_frame(words, FrameNo(frame)) {
+        Dropped::Rows(n) => {
+            *removed = n as u32;
+            0
+        }
+        Dropped::Refused(r) => base::refusal_number(r),
     }
 }
 

@@ -51,6 +51,7 @@ number-small Refusals.Beyond = omega arith
 number-small Refusals.Full = omega arith
 number-small Refusals.UsedUp = omega arith
 number-small Refusals.ShortBuffer = omega arith
+number-small Refusals.RootFrame = omega arith
 
 pub answer-within : (reply : Reply) → Small reply → length (answerText (replyIs reply)) ≤ 66
 unfolding answerText

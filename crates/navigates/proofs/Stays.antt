@@ -7,14 +7,14 @@ use native.Mathlib.Omega.{arith}
 use lib.ListN.{length}
 use borrow.Author.Tests.{eqb-true, eq-eqb, not-true}
 use Rattle.rules.specs.Below.{someBelow}
-use Rattle.rules.specs.Rows.{Row, frameAt, isShown}
+use Rattle.rules.specs.Rows.{Row, frameAt, parentAt, isShown}
 use Rattle.rules.specs.Steps.{same, isStep, reached, upcoming}
 use Rattle.laws.proofs.Tests.{clash, off, same-tests, by-order, some-in, some-out, count-in, nth}
 use Rattle.laws.proofs.Frames.{first, step-in, step-out, reach-out}
 use Rattle.laws.proofs.Removal.{SoundRows, stays}
-use Rattle.packs.specs.Packing.{parentKept}
+use Rattle.packs.specs.Packing.{docKept, parentKept}
 use Rattle.packs.proofs.Packed.{Sees}
-use Rattle.packs.proofs.Stays.{Upheld, upheld-stays, parent-upheld}
+use Rattle.packs.proofs.Stays.{stays-split, parent-told}
 use Rattle.navigates.specs.Packing.{joins}
 
 module _ (rows : List Row) {a b : ℕ} (s : SoundRows rows a b) where
@@ -48,12 +48,14 @@ module _ (rows : List Row) {a b : ℕ} (s : SoundRows rows a b) where
     framed-in : (m : ℕ) → m < i → So (keep m) → frameAt rows m ≡ frameAt rows i → So framed
     framed-in m l t e = some-in (same (frameAt new) i) k (omega (arith, see .count-is, count-in keep i l t)) (eq-eqb _ _ (see .moved m l t .f ∙ e ∙ sym (see .here .f)))
 
-    -- Where its parent stays, so does the first row of its frame.
-    upheld-framed : Upheld (upcoming rows) rows i → So (isStep rows i) → So framed
+    -- Where its parent is kept, so is the first row of its frame.
+    upheld-framed : So (parentKept new k i) → So (isStep rows i) → So framed
     upheld-framed up t =
         let f = first (frameAt rows) i in
         let l : f .0 < i = by-order (f .0) i (λ l. l) (λ q. absurd (clash t (subst (λ x. isStep rows x ≡ false) q (f .3)))) (λ l. absurd (omega arith)) in
-        framed-in (f .0) l (upheld-stays (upcoming rows) rows (f .0) (λ j m e. up j (omega arith) (e ∙ s .tree .kin (f .0) i (omega arith) below (f .2))) (rw (f .3) refl)) (f .2)
+        let e : parentAt rows (f .0) ≡ parentAt new i = s .tree .kin (f .0) i (omega arith) below (f .2) ∙ sym (see .here .p) in
+        let u = sym (parent-told (upcoming rows) rows (s .tree) new i k below see (f .0) (omega arith)) ∙ ap (docKept new k) e ∙ up in
+        framed-in (f .0) l (sym (stays-split (upcoming rows) rows (f .0)) ∙ simp and-eq-true-iff (rw (f .3) refl, u)) (f .2)
 
     -- After an upcoming step, a row is the first of its frame that is kept exactly when it is no upcoming step itself.
     pub joins-is : (u : ℕ) → u ≤ i → So (upcoming rows u) → joins new k i ≡ (not (upcoming rows i) && parentKept new k i)
@@ -62,8 +64,7 @@ module _ (rows : List Row) {a b : ℕ} (s : SoundRows rows a b) where
         same-tests
         (λ h.
         let v = simp and-eq-true-iff at h in
-        let up = parent-upheld (upcoming rows) rows (s .tree) new i k below see (v .1) in
-        simp and-eq-true-iff (rw (off (upcoming rows i) (λ c. clash (upheld-framed up ((simp and-eq-true-iff at c) .0)) (not-true _ (v .0)))) refl, v .1))
+        simp and-eq-true-iff (rw (off (upcoming rows i) (λ c. clash (upheld-framed (v .1) ((simp and-eq-true-iff at c) .0)) (not-true _ (v .0)))) refl, v .1))
         (λ h.
         let v = simp and-eq-true-iff at h in
         simp and-eq-true-iff (rw (off framed (λ g. clash (step-goes u i late below first-up (framed-step g)) (not-true _ (v .0)))) refl, v .1))

@@ -24,10 +24,11 @@ keptTo keep old i = gather keep (rowAt (rowsOf old)) i
 abbrev pub Packed : (ℕ → Bool) → List ℕ → ℕ → ℕ → List ℕ → Type 0
 Packed keep old i k new = Over (keptTo keep old i) old k new
 
--- What the turn at row i sees, with k rows kept before it: row i as it was, and those rows at their new places.
+-- What the turn at row i sees, with k rows kept before it: row i as it was, and every row past those, and those at their new places.
 pub record Sees (keep : ℕ → Bool) (rows new : List Row) (i k : ℕ) : Type 0 where
   pub count-is : k ≡ count keep i
   pub here : Alike new i rows i
+  pub past : (j : ℕ) → k ≤ j → j < length rows → Alike new j rows j
   pub moved : (j : ℕ) → j < i → So (keep j) → Alike new (count keep j) rows j
 
 module _ (keep : ℕ → Bool) (old : List ℕ) where
@@ -63,6 +64,7 @@ module _ (keep : ℕ → Bool) (old : List ℕ) where
           record {
             count-is = packed-count;
             here = alike same-row;
+            past = λ j m b. alike (over-rest (keptTo keep old i) old k new p j m b);
             moved = λ j m t.
                 alike (over-row (keptTo keep old i) old k new p fits (omega (arith, packed-most)) (count keep j) (omega (arith, packed-count, count-in keep i m t)) ∙ gather-at keep (rowAt (rowsOf old)) i noRow m t);
           }

@@ -18,18 +18,18 @@ use Rattle.reads.specs.declared.Found.the-variants.{At, Nothing}
 use Rattle.reads.proofs.Scans.{found-at, found-lower, found-nothing, some-found, none-found}
 use Rattle.rows.specs.Readable.{readOf}
 use Rattle.rows.specs.declared.Row.{Row as Read}
-use Rattle.packs.specs.Packing.{parentKept, Moved, ended}
+use Rattle.packs.specs.Packing.{docKept, parentKept, Moved, ended}
 
 module _ (rows : List Row) (k i up : ℕ) (named : up ≡ parentAt rows i) where
   -- A row without a parent.
   pub kept-root : up ≡ none → true ≡ parentKept rows k i
-  unfolding parentKept
+  unfolding docKept
   kept-root z = rw (eq-eqb (parentAt rows i) none (sym named ∙ z)) refl
 
   module _ (some : up ≡ none → ⊥) (f : Found) (scan : f ≡ foundBelow (isDoc rows up) k) where
     -- One whose parent is looked for among the first k rows, and found or not.
     kept-scan : (b : Bool) → b ≡ someBelow k (isDoc rows up) → b ≡ parentKept rows k i
-    unfolding parentKept
+    unfolding docKept
     kept-scan b e = rw (ne-eqb (parentAt rows i) none (λ z. some (named ∙ z)), ← named) e
 
     pub kept-found : (q : RowPlace) → f ≡ At q → true ≡ parentKept rows k i
@@ -37,6 +37,10 @@ module _ (rows : List Row) (k i up : ℕ) (named : up ≡ parentAt rows i) where
 
     pub kept-lost : f ≡ Nothing → false ≡ parentKept rows k i
     kept-lost e = kept-scan false (none-found (isDoc rows up) k f scan e)
+
+-- What is known of a document is known of a row with it for its parent.
+pub kept-told : (rows : List Row) (k i up d : ℕ) → up ≡ parentAt rows i → (b : Bool) → docKept rows k d ≡ b → up ≡ d → b ≡ parentKept rows k i
+kept-told rows k i up d named b h s = sym h ∙ ap (docKept rows k) (sym s ∙ named)
 
 module _ (rows : List Row) (k d : ℕ) (f : Found) (scan : f ≡ foundBelow (isDoc rows d) k) where
   -- The row found holds the document.

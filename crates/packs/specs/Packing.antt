@@ -9,9 +9,13 @@ use Rattle.rules.specs.Below.{someBelow}
 use Rattle.rules.specs.Rows.{Row, none, rowAt, parentAt, isDoc}
 use Rattle.rules.specs.Words.{put, rowsOf, rowWords}
 
+-- Document d is none, or one of the rows before k holds it.
+unfoldable pub docKept : List Row → ℕ → ℕ → Bool
+docKept rows k d = eqb d none || someBelow k (isDoc rows d)
+
 -- Row i has no parent, or one of the rows before k holds it.
-unfoldable pub parentKept : List Row → ℕ → ℕ → Bool
-parentKept rows k i = eqb (parentAt rows i) none || someBelow k (isDoc rows (parentAt rows i))
+abbrev pub parentKept : List Row → ℕ → ℕ → Bool
+parentKept rows k i = docKept rows k (parentAt rows i)
 
 -- Row i moved down to place k if it stays, and how many rows are kept then.
 pub record Moved (stays : Bool) (old : List ℕ) (i k next : ℕ) (new : List ℕ) : Type 0 where

@@ -5,14 +5,14 @@ use base::RowPlace;
 use reads::Found;
 use reads::NONE;
 ghost use mathlib.Core.Path.{_≡_};
-ghost use mathlib.Core.Bool.{So};
+ghost use mathlib.Core.Bool.{true, false, So};
 ghost use Prim.Native.Nat.{_+_, _-_, _*_, _<_, _≤_};
 ghost use lib.ListN.{length, replicate};
 ghost use Rattle.rules.specs.Below.{someBelow};
 ghost use Rattle.rules.specs.Rows.{docAt, isDoc};
 ghost use Rattle.rules.specs.Words.{put, rowsOf};
 ghost use Rattle.reads.specs.Within.{Before, Within};
-ghost use Rattle.packs.specs.Packing.{parentKept, Moved, ended};
+ghost use Rattle.packs.specs.Packing.{docKept, parentKept, Moved, ended};
 
 // Whether a row has no parent, or one of the first k rows holds it.
 pub fn parent_kept(words: &[u32], at: RowPlace, k: usize) -> bool
@@ -27,6 +27,21 @@ pub fn parent_kept(words: &[u32], at: RowPlace, k: usize) -> bool
         Found::At(_) => true,
         Found::Nothing => false,
     }
+}
+
+// The same, where one document is known to be none or held by the first k rows, and another not to be: a row with one of them for its parent needs no look.
+pub fn parent_known(words: &[u32], at: RowPlace, k: usize, found: DocNo, missed: DocNo) -> bool
+    requires { ⌜ Within (now words) (at .0) × (k ≤ at .0) × (docKept (rowsOf (now words)) k (found .0) ≡ true) × (docKept (rowsOf (now words)) k (missed .0) ≡ false) ⌝ }
+    ensures { λ r. ⌜ r ≡ parentKept (rowsOf (now (words .entry))) k (at .0) ⌝ }
+{
+    let up = reads::parent(words, at);
+    if up.0 == found.0 {
+        return true;
+    }
+    if up.0 == missed.0 {
+        return false;
+    }
+    parent_kept(words, at, k)
 }
 
 // Moves a row down behind the k rows kept so far if it stays. How many are kept then.

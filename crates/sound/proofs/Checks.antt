@@ -16,7 +16,7 @@ use Rattle.rules.specs.Calls.{Call, Answer, Rung, _when_, short, unsound, lentT
 use Rattle.laws.proofs.Calls.{outcome-refused}
 use Rattle.laws.proofs.Tests.{test}
 use Rattle.laws.proofs.Reflect.{sound-is}
-use Rattle.sound.specs.Check.{checkOf, Examined, Judged}
+use Rattle.sound.specs.Check.{checkOf, Examined, Settles, Judged}
 use Rattle.sound.specs.declared.Check.{Check}
 use Rattle.sound.specs.declared.Check.the-variants.{Sound as Fine, No}
 use Rattle.sound.specs.Survey.{standOf, surveyOf, Located}
@@ -89,6 +89,16 @@ module _ (words : List ℕ) (e : Examined words) where
 
   pub examined-fits : length (rowsOf words) ≤ capacity words
   examined-fits = examined-sound .table .s1 .fits
+
+-- A line that does not apply leaves it to the rest of the table.
+pub settles-past : (r : Rung) (rest : List Rung) → r .holds ≡ false → (k : Check) → Settles rest k → Settles (r ∷ rest) k
+unfolding Given NoneGiven
+settles-past r rest f Fine h = (f, h)
+settles-past r rest f (No x) h = inr (f, h)
+
+-- Refusals 1 and 2 do not apply to an examined record.
+pub examined-past : (words : List ℕ) → Examined words → (rest : List Rung) (k : Check) → Settles rest k → Settles (1 when short words ∷ 2 when unsound words ∷ rest) k
+examined-past words e rest k h = settles-past _ _ (e .long) k (settles-past _ _ (rw (e .passes) refl) k h)
 
 -- What a judge's word is worth.
 module _ (c : Call) (k : Check) (j : Judged c k) where

@@ -1,0 +1,22 @@
+-- `frame_history_drop` meets its contract. Assumes nothing.
+use borrow.Author.Needs.{needs}
+use mathlib.Core.Path.{ap}
+use native.Mathlib.Omega.{arith}
+use Rattle.drops.specs.Answers.{droppedIs}
+use Rattle.frame_history.proofs.Bounds.{drop-small}
+use Rattle.frame_history.proofs.Faces.{face-gives, face-refuses}
+use Rattle.frame_history.proofs.frame_history_drop.Statement.{statement}
+use Rattle.frame_history.proofs.frame_history_drop.Tie as tie
+
+pub frame-history-drop-spec : {M : Type 1} → statement M
+frame-history-drop-spec =
+    tie.close (tie.spec
+    (λ c κs. search needs)
+    (λ c. search needs)
+    (λ c. let b = drop-small _ _ _ _ _ (c .before .before .before .before .before .drop-frame .ensures) (ap droppedIs (c .before .n .given .1)) in omega (arith, b))
+    (λ c. search needs)
+    (λ c κs. search needs)
+    (λ c. search needs)
+    (λ c. face-gives _ _ _ _ (c .before .before .before .before .before .drop-frame .ensures) _ (ap droppedIs (c .before .n .given .1)))
+    (λ c. search needs)
+    (λ c. face-refuses _ _ _ _ (c .before .before .before .before .before .before .drop-frame .ensures) _ _ (ap droppedIs (c .before .before .r .given .1)) (c .refusal-number .ensures)))
