@@ -25,13 +25,14 @@
 extern "C" {
 #endif
 
-/* The nine ways to say no. Where several apply, the smallest number is given. */
+/* The ways to say no. Where several apply, the one that stands first here is given. */
 enum {
   FRAME_HISTORY_SHORT_RECORD = 1, /* the record is under 7 words */
   FRAME_HISTORY_UNSOUND = 2,      /* the record is unsound */
   FRAME_HISTORY_NOT_SAVED = 3,    /* the bytes are not bytes that frame_history_save writes */
-  FRAME_HISTORY_ABSENT = 4,       /* the document is not in the record */
-  FRAME_HISTORY_HIDDEN = 5,       /* the document is there, but not visible */
+  FRAME_HISTORY_ABSENT = 4,       /* the document, or for drop the frame, is not in the record */
+  FRAME_HISTORY_ROOT_FRAME = 10,  /* the root frame cannot be taken out */
+  FRAME_HISTORY_HIDDEN = 5,       /* the document, or for drop the one that holds the frame, is there, but not visible */
   FRAME_HISTORY_BEYOND = 6,       /* position + delta is below 0 or above steps; or a list is too short for the stretch */
   FRAME_HISTORY_FULL = 7,         /* no row is left */
   FRAME_HISTORY_USED_UP = 8,      /* the next document number, or for open the next frame number, is 4294967295 */
@@ -53,6 +54,12 @@ uint32_t frame_history_open(uint32_t *words, size_t n, uint32_t parent, uint32_t
    Lent to write: the record. Out: the number of the new document; kept on refusal.
    Refused: 1, 2, 4, 5, 7, 8. */
 uint32_t frame_history_navigate(uint32_t *words, size_t n, uint32_t from, uint32_t *document);
+
+/* Takes out the frame `frame`, with everything beneath it: its rows and those go, shown or not, and the gaps close in order. The other
+   rows keep their flags, and the numbers of what went are not given again. The document that holds the frame must be visible.
+   Lent to write: the record. Out: how many rows went; kept on refusal.
+   Refused: 1, 2, 4, 10, 5, in this order. */
+uint32_t frame_history_drop(uint32_t *words, size_t n, uint32_t frame, uint32_t *removed);
 
 /* Goes `delta` steps forward, or back where it is negative; 0 changes nothing.
    Lent to write: the record, and `changes` for change rows of four words each, one for each frame whose shown document changes, by

@@ -9,7 +9,7 @@ use Rattle.changes.specs.declared.ChangeRow.{ChangeRow}
 use Rattle.changes.specs.Changes.{plain}
 use Rattle.changes.proofs.Filling.{plain-same}
 use Rattle.determined.specs.Determined.{AtMostOne, OneResult, Determined}
-use Rattle.determined.proofs.Injective.{fresh-injective, opened-injective, navigated-injective, traversed-injective, standing-injective, sight-injective, listed-injective, stretch-injective, outlined-injective, saving-injective, loading-injective, reply-injective, command-injective}
+use Rattle.determined.proofs.Injective.{fresh-injective, opened-injective, navigated-injective, dropped-injective, traversed-injective, standing-injective, sight-injective, listed-injective, stretch-injective, outlined-injective, saving-injective, loading-injective, reply-injective, command-injective}
 use Rattle.determined.proofs.Shifts.{shift-alike}
 
 -- No two results of a call have one answer: then its outcome tells the result, with the lent runs.
@@ -27,6 +27,7 @@ determined =
       fresh = λ words. alike fresh-injective (Call.Fresh words);
       open-frame = λ words parent. alike opened-injective (Call.Open words parent);
       navigate = λ words from. alike navigated-injective (Call.Navigate words from);
+      drop-frame = λ words frame. alike dropped-injective (Call.Drop words frame);
       traverse = λ words δ room. alike traversed-injective (Call.Traverse words δ room);
       position = λ words. alike standing-injective (Call.Position words);
       visible = λ words d. alike sight-injective (Call.Visible words d);

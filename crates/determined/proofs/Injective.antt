@@ -15,6 +15,8 @@ use Rattle.moves.specs.declared.Opened.the-variants as Opens
 use Rattle.moves.specs.Answers.{freshIs, openedIs}
 use Rattle.navigates.specs.declared.Navigated.the-variants as Navigateds
 use Rattle.navigates.specs.Answers.{navigatedIs}
+use Rattle.drops.specs.declared.Dropped.the-variants as Droppeds
+use Rattle.drops.specs.Answers.{droppedIs}
 use Rattle.traverses.specs.declared.Traversed.the-variants as Traverseds
 use Rattle.traverses.specs.Answers.{traversedIs}
 use Rattle.asks.specs.declared.Standing.the-variants as Standings
@@ -81,6 +83,11 @@ pub navigated-injective : Injective navigatedIs
 navigated-injective =
     told-back navigatedIs (λ v. Navigateds.Arrived (record { 0 = getD v 0 0 })) Navigateds.Refused
     λ r. elim r [ Navigateds.Arrived d ↦ refl | Navigateds.Refused k ↦ ap Navigateds.Refused (number-back k) ]
+
+pub dropped-injective : Injective droppedIs
+dropped-injective =
+    told-back droppedIs (λ v. Droppeds.Rows (getD v 0 0)) Droppeds.Refused
+    λ r. elim r [ Droppeds.Rows n ↦ refl | Droppeds.Refused k ↦ ap Droppeds.Refused (number-back k) ]
 
 pub traversed-injective : Injective traversedIs
 traversed-injective =

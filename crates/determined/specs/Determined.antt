@@ -7,6 +7,7 @@ use Rattle.rules.specs.Asks.{stretched}
 use Rattle.rules.specs.Calls.{Call, Answer, outcome}
 use Rattle.moves.specs.Answers.{freshIs, openedIs}
 use Rattle.navigates.specs.Answers.{navigatedIs}
+use Rattle.drops.specs.Answers.{droppedIs}
 use Rattle.traverses.specs.declared.Traversed.{Traversed}
 use Rattle.traverses.specs.declared.Shifted.{Shifted}
 use Rattle.traverses.specs.Answers.{traversedIs, answerOf, tripOf, tripText, Shifts}
@@ -36,6 +37,7 @@ pub record Determined : Type 0 where
   pub fresh : (words : List ℕ) → OneResult freshIs (Call.Fresh words)
   pub open-frame : (words : List ℕ) (parent : ℕ) → OneResult openedIs (Call.Open words parent)
   pub navigate : (words : List ℕ) (from : ℕ) → OneResult navigatedIs (Call.Navigate words from)
+  pub drop-frame : (words : List ℕ) (frame : ℕ) → OneResult droppedIs (Call.Drop words frame)
   pub traverse : (words : List ℕ) (δ : ℤ) (room : List ℕ) → OneResult traversedIs (Call.Traverse words δ room)
   pub position : (words : List ℕ) → OneResult standingIs (Call.Position words)
   pub visible : (words : List ℕ) (d : ℕ) → OneResult sightIs (Call.Visible words d)
