@@ -146,10 +146,11 @@ readBy : Command → Read
 readBy (Command.opens d) = Reads.Open (record { 0 = d })
 readBy (Command.navs d) = Reads.Nav (record { 0 = d })
 readBy (Command.goes δ) = Reads.Go δ
+readBy (Command.drops f) = Reads.Drop (record { 0 = f })
 readBy Command.bad = Reads.Bad
 
 pub command-injective : Injective commandIs
 unfolding readBy
 command-injective =
     LeftInverse·injective readBy commandIs
-    λ r. elim r [ Reads.Open d ↦ refl | Reads.Nav d ↦ refl | Reads.Go δ ↦ refl | Reads.Bad ↦ refl ]
+    λ r. elim r [ Reads.Open d ↦ refl | Reads.Nav d ↦ refl | Reads.Go δ ↦ refl | Reads.Drop f ↦ refl | Reads.Bad ↦ refl ]

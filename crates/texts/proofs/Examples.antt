@@ -11,7 +11,7 @@ use Rattle.rules.specs.Words.{put, tableOf, wordsOf, written}
 use Rattle.rules.specs.Sound.{soundTable?, sound?}
 use Rattle.rules.specs.Calls.{refusals, accepted, ladder, outcome}
 use Rattle.lines.specs.Decimal.{decimalBy, decimal, decimal?, spelled, upTo, numeral}
-use Rattle.lines.specs.Lines.{starts?, going, worded, parse}
+use Rattle.lines.specs.Lines.{starts?, going, otherWord, worded, parse}
 use Rattle.lines.specs.Reply.{statusText, answerText}
 use Rattle.turns.specs.Turns.{turned}
 use Rattle.texts.specs.Texts.{linesFrom, answers, printed}
@@ -69,5 +69,5 @@ pub scripts-hold : map (λ s. printed 8 (s .text)) scripts ≡ map (λ s. s .exp
 unfolding someBelow allBelow count earliest latest tab gather inRecord place isFrame withFlags climb step reach position steps visible
     opened gone without hide navigated show forward backTarget rowBefore back walked shownDoc changeRow changes
     put tableOf wordsOf written soundTable? sound? refusals accepted ladder outcome flatMap
-    decimalBy decimal decimal? spelled upTo numeral starts? going worded parse statusText answerText turned linesFrom answers printed
+    decimalBy decimal decimal? spelled upTo numeral starts? going otherWord worded parse statusText answerText turned linesFrom answers printed
 scripts-hold = refl
