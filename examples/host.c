@@ -18,7 +18,7 @@ static int refused(const char *call, uint32_t number) {
 static void stands(const uint32_t *words) {
   uint32_t position, steps, length;
   if (!refused("position", frame_history_position(words, WORDS, &position, &steps, &length)))
-    printf("  position %u of %u\n", (unsigned)position, (unsigned)steps);
+    printf("  position %u of %u, length %u\n", (unsigned)position, (unsigned)steps, (unsigned)length);
 }
 
 int main(void) {

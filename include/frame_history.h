@@ -83,7 +83,8 @@ uint32_t frame_history_traverse_rows(uint32_t *words, size_t n, int32_t delta, f
                                      size_t rows_n, uint32_t *count);
 
 /* Where the window stands.
-   Lent to read: the record. Out: the position, the steps, and the length for scripts; all kept on refusal.
+   Lent to read: the record. Out: the position, the steps, and the length for scripts, which counts the current entry too: one more than
+   the steps, and 1 for a fresh window; all kept on refusal.
    Refused: 1, 2. */
 uint32_t frame_history_position(const uint32_t *words, size_t n, uint32_t *position, uint32_t *steps, uint32_t *length);
 

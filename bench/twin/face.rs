@@ -41,7 +41,7 @@ pub unsafe extern "C" fn drop(words: *mut u32, count: usize, frame: u32, removed
 
 /// Position, steps, and the length for scripts.
 pub unsafe extern "C" fn position(words: *const u32, count: usize, position: &mut u32, steps: &mut u32, length: &mut u32) -> u32 {
-    answer(asks::position(lent(words, count)), |(p, s)| (*position, *steps, *length) = (p as u32, s as u32, s as u32))
+    answer(asks::position(lent(words, count)), |(p, s)| (*position, *steps, *length) = (p as u32, s as u32, s as u32 + 1))
 }
 
 /// Whether a document is visible.

@@ -114,10 +114,10 @@ fn standing(history: &History) -> (u32, u32) {
     (history.taken().len() as u32, steps as u32)
 }
 
-/// Answers position, steps, and length for scripts, "which is the number of steps".
+/// Answers position, steps, and length for scripts, which counts the current entry too: "it is steps plus one".
 pub fn position(words: &[u32]) -> Answer<(u32, u32, u32)> {
     let (position, steps) = standing(&examined(words)?);
-    Ok((position, steps, steps))
+    Ok((position, steps, steps + 1))
 }
 
 pub fn visible(words: &[u32], document: u32) -> Answer<bool> {

@@ -1,8 +1,9 @@
 -- What each question answers, as an outcome. Assumes nothing.
-use Prim.Native.Nat.{ℕ, _-_, _≤_, _<_}
+use Prim.Native.Nat.{ℕ, _+_, _-_, _≤_, _<_}
+use native.Mathlib.Omega.{arith}
 use mathlib.Core.Bool.{true, false}
 use mathlib.Core.List.{List, [], _∷_}
-use mathlib.Core.Path.{_≡_, refl, sym, ap₂, _∙_}
+use mathlib.Core.Path.{_≡_, refl, sym, ap, ap₂, _∙_}
 use lib.IntN.{ℤ, pos, natAbs}
 use lib.ListN.{length, take}
 use lib.Signed.{ltZ}
@@ -19,6 +20,7 @@ use Rattle.sound.specs.Check.{checkOf, Examined}
 use Rattle.sound.specs.declared.Check.{Check}
 use Rattle.sound.specs.declared.Check.the-variants.{No}
 use Rattle.laws.proofs.Lists.{taken-length, upcoming-length}
+use Rattle.laws.proofs.Standing.{steps-most}
 use Rattle.rows.specs.Readable.{readableRows}
 use Rattle.asks.specs.Answers.{sightIs, sightOf, SightIs}
 use Rattle.asks.specs.declared.Sight.{Sight}
@@ -39,7 +41,13 @@ module _ (words : List ℕ) (k : Survey) (e : k ≡ surveyOf words) where
   unfolding refusals
   position-refused r f = outcome-refused (Call.Position words) (numberOf r) (survey-given words _ k r e f)
 
-  pub position-given : (s : Stand) → k ≡ Stands s → outcome (Call.Position words) ≡ record { answer = Answer.gives (s .position ∷ s .steps ∷ s .steps ∷ []); lent = [] }
+  -- One more than the steps is no large number.
+  pub length-fits : (s : Stand) → k ≡ Stands s → s .steps < 513
+  length-fits s f =
+      let h = survey-stands words k s e f in
+      omega (arith, ap (λ z. z .steps) (h .1), steps-most (rowsOf words), examined-sound words (h .0) .table .s1 .fits)
+
+  pub position-given : (s : Stand) → k ≡ Stands s → outcome (Call.Position words) ≡ record { answer = Answer.gives (s .position ∷ s .steps ∷ (s .steps + 1) ∷ []); lent = [] }
   unfolding outcome refusals accepted ladder
   position-given s f = let h = survey-stands words k s e f in let x = h .0 in rw (x .long, x .passes, h .1) refl
 

@@ -34,7 +34,7 @@ pub fn position(words: &[u32]) -> Standing
 {
     match sound::locate(words) {
         Survey::No(r) => Standing::Refused(r),
-        Survey::Stands(s) => Standing::At(s.position, s.steps, s.steps),
+        Survey::Stands(s) => Standing::At(s.position, s.steps, s.steps + 1),
     }
 }
 

@@ -1,4 +1,4 @@
-// Document 01's P1 to P12 and the cases of Drop, run: every call's answer, and of the record at the end its position and the visible documents.
+// Document 01's P1 to P12 and the cases of Drop, run: every call's answer, and of the record at the end its position, length and visible documents.
 use asks::Sight;
 use asks::Standing;
 use base::DocNo;
@@ -151,14 +151,16 @@ fn say_documents(words: &[u32]) {
     say_visible(words, 6);
 }
 
-// Position, steps and visible documents of a record.
+// Position, steps, length and visible documents of a record.
 fn stand(words: &[u32]) {
     match asks::position(words) {
-        Standing::At(p, s, _) => {
+        Standing::At(p, s, l) => {
             say(b"  position ");
             say_number(p as u64);
             say(b" of ");
             say_number(s as u64);
+            say(b", length ");
+            say_number(l as u64);
             say(b", visible");
             say_documents(words);
             say(b"\n");

@@ -5,7 +5,7 @@ use mathlib.Core.Bool.{false, So}
 use mathlib.Core.Path.{_≡_}
 use lib.ListN.{length}
 use Rattle.rules.specs.Rows.{docAt, inRecord, isFrame, flag}
-use Rattle.rules.specs.Steps.{taken, position, steps, visible}
+use Rattle.rules.specs.Steps.{taken, position, steps, scriptLength, visible}
 use Rattle.rules.specs.Words.{rowsOf}
 use Rattle.rules.specs.Sound.{Sound}
 use Rattle.rules.specs.Calls.{Call, Answer, outcome}
@@ -18,7 +18,7 @@ positionIn words = position (rowsOf words)
 
 -- What is noted is what the calls answer: "Position answers position, steps, and length for scripts", "Visible answers yes or no for a document."
 pub record Noted (words : List ℕ) : Type 0 where
-  pub position-asked : outcome (Call.Position words) .answer ≡ Answer.gives (positionIn words ∷ steps (rowsOf words) ∷ steps (rowsOf words) ∷ [])
+  pub position-asked : outcome (Call.Position words) .answer ≡ Answer.gives (positionIn words ∷ steps (rowsOf words) ∷ scriptLength (rowsOf words) ∷ [])
   pub visible-asked : (d : ℕ) → So (inRecord (rowsOf words) d) → outcome (Call.Visible words d) .answer ≡ Answer.gives (flag (visible (rowsOf words) d) ∷ [])
 
 -- Document d "is one of the noted position's taken steps".

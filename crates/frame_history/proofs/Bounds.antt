@@ -10,7 +10,7 @@ use mir.Syntax.{w32}
 use mir.Val.{SFits}
 use borrow.Author.Tests.{ltb-false, not-false}
 use Rattle.rules.specs.Rows.{Row, Table, none}
-use Rattle.rules.specs.Steps.{position, steps}
+use Rattle.rules.specs.Steps.{position, steps, scriptLength}
 use Rattle.rules.specs.Moves.{walked, dropped, frames, changeRow, changes, shownDoc}
 use Rattle.rules.specs.Words.{capacity, tableOf, rowsOf}
 use Rattle.rules.specs.Asks.{takenList, upcomingList, outlineOf}
@@ -48,7 +48,7 @@ module _ (c : Call) (a : Answer) (runs : List (List ℕ)) (values : List ℕ) (e
 
 module _ (words : List ℕ) (a : Answer) (runs : List (List ℕ)) where
   -- Position, steps and length.
-  pub position-small : (p s l : ℕ) → outcome (Call.Position words) ≡ record { answer = a; lent = runs } → a ≡ Answer.gives (p ∷ s ∷ l ∷ []) → (p ≤ 512) × (s ≤ 512) × (l ≤ 512)
+  pub position-small : (p s l : ℕ) → outcome (Call.Position words) ≡ record { answer = a; lent = runs } → a ≡ Answer.gives (p ∷ s ∷ l ∷ []) → (p ≤ 512) × (s ≤ 512) × (l ≤ 513)
   unfolding refusals NoneGiven accepted
   position-small p s l e g =
       let h = not-refused (Call.Position words) a runs _ e g in
@@ -56,7 +56,7 @@ module _ (words : List ℕ) (a : Answer) (runs : List (List ℕ)) where
       let m = sound-is words .0 (not-false _ (h .1 .0)) .table .s1 .fits in
       let x : position (rowsOf words) ≡ p = ap (value 0) v in
       let y : steps (rowsOf words) ≡ s = ap (value 1) v in
-      let z : steps (rowsOf words) ≡ l = ap (value 2) v in
+      let z : scriptLength (rowsOf words) ≡ l = ap (value 2) v in
       let i = position-steps (rowsOf words) in
       let j = steps-most (rowsOf words) in
       (omega arith, omega arith, omega arith)

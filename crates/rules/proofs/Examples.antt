@@ -95,7 +95,7 @@ abbrev ok : ℕ → Answer
 ok v = Answer.gives (v ∷ [])
 
 abbrev at : ℕ → ℕ → Answer
-at p s = Answer.gives (p ∷ s ∷ s ∷ [])
+at p s = Answer.gives (p ∷ s ∷ (s + 1) ∷ [])
 
 -- X as it stands, after these answers and with these change rows.
 abbrev asX : List Answer → List ℕ → Seen
@@ -425,6 +425,9 @@ smalls =
     ∷ small (Call.Fresh (replicate 6 7)) (no 1) (replicate 6 7 ∷ [])
     ∷ small (Call.Fresh (replicate 7 7)) (Answer.gives []) ((1 ∷ 1 ∷ 1 ∷ 0 ∷ 0 ∷ none ∷ 1 ∷ []) ∷ [])
     ∷ small (Call.Open (fresh 1) 0) (no 7) (fresh 1 ∷ [])
+    -- "a fresh window has length 1 [..] Position and steps stay as they are": the length goes by neither the position nor the steps alone.
+    ∷ small (Call.Position (fresh 1)) (Answer.gives (0 ∷ 0 ∷ 1 ∷ [])) []
+    ∷ small (Call.Position X) (Answer.gives (1 ∷ 2 ∷ 3 ∷ [])) []
     -- "words past 3 + 4C are neither read nor written"
     ∷ small (Call.Position (fresh 1 ++ 7 ∷ [])) (at 0 0) []
     -- "Empty saved bytes: refused 3."

@@ -8,7 +8,7 @@ use lib.Dec.{eqb, leb, ltb}
 use lib.IntN.{ℤ, pos, negsuc, _+ℤ_, natAbs}
 use lib.ListN.{length}
 use Rattle.rules.specs.Rows.{Row, none, inRecord, isFrame, flag}
-use Rattle.rules.specs.Steps.{position, steps, visible}
+use Rattle.rules.specs.Steps.{position, steps, scriptLength, visible}
 use Rattle.rules.specs.Moves.{freshTable, opened, cleared, navigated, traversed, dropped, changes}
 use Rattle.rules.specs.Words.{put, capacity, tableOf, rowsOf, written}
 use Rattle.rules.specs.Sound.{sound?}
@@ -149,7 +149,7 @@ accepted (Call.Traverse words δ room) =
     length (changes (tableOf words) δ) / 4 ∷ [] leaving written words (traversed (tableOf words) δ) ∷ put room 0 (changes (tableOf words) δ) ∷ []
 accepted (Call.Drop words frame) =
     (length (rowsOf words) - length (dropped (tableOf words) frame .rows)) ∷ [] leaving written words (dropped (tableOf words) frame) ∷ []
-accepted (Call.Position words) = position (rowsOf words) ∷ steps (rowsOf words) ∷ steps (rowsOf words) ∷ [] leaving []
+accepted (Call.Position words) = position (rowsOf words) ∷ steps (rowsOf words) ∷ scriptLength (rowsOf words) ∷ [] leaving []
 accepted (Call.Visible words d) = flag (visible (rowsOf words) d) ∷ [] leaving []
 accepted (Call.Lists words takens upcomings) =
     length (takenList (rowsOf words)) ∷ length (upcomingList (rowsOf words)) ∷ []

@@ -1,5 +1,5 @@
 -- The words of document 01, "Words".
-use Prim.Native.Nat.{ℕ}
+use Prim.Native.Nat.{ℕ, _+_}
 use mathlib.Core.Bool.{Bool, false, not, _&&_, _||_}
 use mathlib.Core.List.{List}
 use lib.Dec.{eqb, leb}
@@ -38,6 +38,10 @@ position rows = count (taken rows) (length rows)
 
 unfoldable pub steps : List Row → ℕ
 steps rows = count (isStep rows) (length rows)
+
+-- "HTML counts the current entry, so a fresh window has length 1. Document 01 says length is the number of steps; it is steps plus one." (document 02, L2)
+abbrev pub scriptLength : List Row → ℕ
+scriptLength rows = steps rows + 1
 
 -- "A document is visible when it and every document above it are shown." "Its question to a document is the question to its parent, once the
 -- document itself is shown."
