@@ -39,6 +39,17 @@ enum {
   FRAME_HISTORY_SHORT_BUFFER = 9  /* a lent answer run is too short */
 };
 
+/* How much stack a call needs: so many bytes beneath its caller's frame, on x86-64. It is no more where more rows are in use or more is
+   lent; outline alone needs more where documents are nested deeper. What signal handlers take comes on top, and so does the lookup of
+   memcpy and memset, which the library calls, in a program that looks them up at their first call.
+   tests/stack measures every call and holds it to its number here; docs/BENCH.md has what it measured, and why. */
+enum {
+  FRAME_HISTORY_STACK = 512,         /* every call but load and outline */
+  FRAME_HISTORY_LOAD_STACK = 9216,   /* load, which makes the record there before it writes the words that it was lent */
+  FRAME_HISTORY_OUTLINE_STACK = 512, /* outline; it goes down the documents by calls, so besides */
+  FRAME_HISTORY_OUTLINE_LEVEL = 128  /* so much for each level of visible documents: 1 for the root document alone, and 512 at most */
+};
+
 /* Writes the record of a new window: document 0 in the root frame, frame 0. What the words held does not matter.
    Lent to write: the record, of 7 words or more.
    Refused: 1. */

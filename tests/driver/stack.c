@@ -1,0 +1,417 @@
+/* How much stack each call of the library's archive uses, on x86-64.
+
+   A call is made on a stack of its own that was painted before, and the lowest byte that changed tells how much it used: all beneath the
+   caller's frame, so with the return address and the arguments that do not go in registers. Each call is made twice, on different
+   paints, since a byte may be written with the value of one; the second time the stack has no more than the bound, and the page beneath
+   cannot be touched.
+
+   It prints a line a call, and fails where a bound is missed or where a call answers other than it must on that record.
+   A new call is a line among those that make a call, a line in `calls`, and its cases in `on_sound`; tests/stack compares the
+   names, and the answers that came, with the header. */
+#include "frame_history.h"
+#include <stdio.h>
+
+void exit(int);
+void *mmap(void *, size_t, int, int, int, long);
+int mprotect(void *, size_t, int);
+
+enum { ROWS = 512, WORDS = 3 + 4 * ROWS, BYTES = 12 + 20 * ROWS, PAGE = 65536, STACK = 2 * PAGE, MORE = PAGE / 4 };
+static const uint32_t NONE = 4294967295u;
+
+/* What is lent to a call: the number, the record, runs that are long enough for every answer, the out words. Of the record also what it
+   is called and how many levels of documents are visible in it. */
+typedef struct {
+  const char *shape, *state;
+  uint32_t number, words[WORDS], first[4 * ROWS], second[ROWS], outs[3];
+  uint8_t bytes[BYTES];
+  size_t n, first_n, second_n, bytes_n, levels;
+} lent;
+
+typedef uint32_t made(lent *);
+
+/* Each makes one call. It ends with a jump into the library and so uses no stack of its own; that of lists, which has more arguments than
+   go in registers, uses 16 bytes. */
+static uint32_t fresh(lent *l) { return frame_history_fresh(l->words, l->n); }
+static uint32_t open(lent *l) { return frame_history_open(l->words, l->n, l->number, l->outs, l->outs + 1); }
+static uint32_t navigate(lent *l) { return frame_history_navigate(l->words, l->n, l->number, l->outs); }
+static uint32_t drop(lent *l) { return frame_history_drop(l->words, l->n, l->number, l->outs); }
+static uint32_t traverse(lent *l) {
+  return frame_history_traverse(l->words, l->n, (int32_t)l->number, l->first, l->first_n, l->outs);
+}
+static uint32_t traverse_rows(lent *l) {
+  return frame_history_traverse_rows(l->words, l->n, (int32_t)l->number, (frame_history_change_row *)l->first, l->first_n / 4, l->outs);
+}
+static uint32_t position(lent *l) { return frame_history_position(l->words, l->n, l->outs, l->outs + 1, l->outs + 2); }
+static uint32_t visible(lent *l) { return frame_history_visible(l->words, l->n, l->number, l->outs); }
+static uint32_t lists(lent *l) {
+  return frame_history_lists(l->words, l->n, l->first, l->first_n, l->second, l->second_n, l->outs, l->outs + 1);
+}
+static uint32_t stretch(lent *l) {
+  return frame_history_stretch(l->first, l->first_n, l->second, l->second_n, (int32_t)l->number, l->outs);
+}
+static uint32_t outline(lent *l) { return frame_history_outline(l->words, l->n, l->first, l->first_n, l->outs); }
+static uint32_t save(lent *l) { return frame_history_save(l->words, l->n, l->bytes, l->bytes_n, l->outs); }
+static uint32_t load(lent *l) { return frame_history_load(l->words, l->n, l->bytes, l->bytes_n, l->outs); }
+
+/* A call: its name after the prefix; whether it begins with refusal 1 (1), with 1 and 2 (2), or with neither (0); its bound, with what is
+   added for each level; and what it keeps on the stack. */
+static const struct { const char *name; made *make; int begins; size_t bound, level; const char *keeps; } calls[] = {
+  {"fresh", fresh, 1, FRAME_HISTORY_STACK, 0, "its return address and that of `memset`, which clears the words"},
+  {"open", open, 2, FRAME_HISTORY_STACK, 0, "saved registers, what the test found, a few numbers; beneath them the test"},
+  {"navigate", navigate, 2, FRAME_HISTORY_STACK, 0, "as open"},
+  {"drop", drop, 2, FRAME_HISTORY_STACK, 0, "as open"},
+  {"traverse", traverse, 2, FRAME_HISTORY_STACK, 0, "as open, once more for the part that both calls that traverse share"},
+  {"traverse_rows", traverse_rows, 2, FRAME_HISTORY_STACK, 0, "as traverse"},
+  {"position", position, 2, FRAME_HISTORY_STACK, 0, "as open"},
+  {"visible", visible, 2, FRAME_HISTORY_STACK, 0, "as open: the climb calls itself and is compiled to a loop"},
+  {"lists", lists, 2, FRAME_HISTORY_STACK, 0, "as open, and two of its eight arguments"},
+  {"stretch", stretch, 0, FRAME_HISTORY_STACK, 0, "its return address"},
+  {"outline", outline, 2, FRAME_HISTORY_OUTLINE_STACK, FRAME_HISTORY_OUTLINE_LEVEL,
+   "as open; and for each level a return address, saved registers and where it stands among a document's frames, since the outline of a "
+   "document calls that of its frames (document 01)"},
+  {"save", save, 2, FRAME_HISTORY_STACK, 0, "as open"},
+  {"load", load, 1, FRAME_HISTORY_LOAD_STACK, 0,
+   "a record of 2051 words, 8204 bytes, since the host's words are written only once the bytes are known to be Save's"},
+};
+enum { CALLS = sizeof calls / sizeof *calls };
+
+/* What was found of each call: the least that it used where it was accepted, the most of all, on which record that was first, the
+   bound there, and which answers came. */
+static struct { size_t least, most, bound; const char *shape, *state; unsigned answers; } found[CALLS];
+static int missed;
+
+/* The stack's lowest byte; the page beneath cannot be touched. */
+static uint8_t *stack;
+
+static void make_stack(void) {
+  uint8_t *whole = mmap(0, PAGE + STACK, 0, 0x22, -1, 0); /* private, anonymous, closed */
+  if (whole == (uint8_t *)-1 || mprotect(whole + PAGE, STACK, 3) != 0) exit(3);
+  stack = whole + PAGE;
+}
+
+/* Makes a call with the stack pointer at `top`, a multiple of 16. */
+uint32_t make_at(uint8_t *top, made *make, lent *l);
+__asm__(".text\n"
+        "make_at:\n"
+        "  pushq %rbx\n"
+        "  movq %rsp, %rbx\n"
+        "  movq %rdi, %rsp\n"
+        "  movq %rdx, %rdi\n"
+        "  callq *%rsi\n"
+        "  movq %rbx, %rsp\n"
+        "  popq %rbx\n"
+        "  retq\n");
+
+/* Says which call on which record went wrong. */
+static void say(int c, const lent *l, const char *what, size_t is, const char *than, size_t wanted) {
+  printf("%s of %d on %s, %s: it %s %zu %s %zu\n", calls[c].name, (int)l->number, l->shape, l->state, what, is, than, wanted);
+  missed = 1;
+}
+
+/* Makes a call that must give this answer, with so many bytes of stack; how many of them it used. */
+static size_t used(int c, const lent *given, uint32_t answer, size_t room, uint8_t paint) {
+  static lent l;
+  size_t i;
+  l = *given;
+  for (i = 0; i < room; i++) stack[i] = paint;
+  uint32_t came = make_at(stack + room, calls[c].make, &l);
+  if (came != answer) say(c, given, "answered", came, "and not", answer);
+  for (i = 0; i < room && stack[i] == paint; i++) {}
+  return room - i;
+}
+
+/* Measures a call that must give this answer. */
+static void measure(int c, const lent *l, uint32_t answer) {
+  size_t bound = calls[c].bound + calls[c].level * l->levels, most = used(c, l, answer, bound + MORE, 0x5a);
+  if (most > bound) say(c, l, "used", most, "bytes of", bound);
+  size_t again = used(c, l, answer, most > bound ? bound + MORE : bound, 0xa5);
+  if (most < again) most = again;
+  if (answer == 0 && (found[c].least == 0 || most < found[c].least)) found[c].least = most;
+  found[c].answers |= 1u << answer;
+  if (most <= found[c].most) return;
+  found[c].most = most;
+  found[c].bound = bound;
+  found[c].shape = l->shape;
+  found[c].state = l->state;
+}
+
+/* The same, of the call that is made so, with this number. */
+static void try(made *make, lent *l, uint32_t number, uint32_t answer) {
+  int c = 0;
+  while (c < CALLS && calls[c].make != make) c++;
+  if (c == CALLS) {
+    printf("a call that is tried is not among `calls`\n");
+    exit(1);
+  }
+  l->number = number;
+  measure(c, l, answer);
+}
+
+/* The words of a row: document, frame, parent, shown. */
+static uint32_t *row(lent *l, size_t at) { return l->words + 3 + 4 * at; }
+static uint32_t *last(lent *l) { return row(l, l->words[0] - 1); }
+
+/* Makes a call that builds a record and must be accepted; its first out word. */
+static uint32_t build(made *make, lent *l, uint32_t number) {
+  l->number = number;
+  if (make(l) != 0) {
+    printf("a call that builds the record %s, %s is refused\n", l->shape, l->state);
+    exit(1);
+  }
+  return l->outs[0];
+}
+
+/* The shapes of the benchmark, bench/measure/shapes.rs. */
+enum { DESK, WIDE, DEEP, WORST, SHAPES };
+static const char *const shapes[] = {"desk", "wide", "deep", "worst"};
+
+/* Three frames, the two beneath the root navigated in turn; every row a frame beneath the root, or beneath the row before it. */
+static void build_called(lent *l, int shape, size_t rows) {
+  uint32_t latest[3] = {0, 0, 0};
+  build(fresh, l, 0);
+  for (size_t i = 1; i < rows; i++) {
+    size_t slot = shape == DESK ? 1 + (i - 1) % 2 : 0;
+    if (shape == DESK && i > 2) latest[slot] = build(navigate, l, latest[slot]);
+    else if (shape == WIDE) build(open, l, 0);
+    else latest[slot] = build(open, l, shape == DEEP ? latest[0] : 0);
+  }
+}
+
+/* Every row a frame, frame numbers falling, parents the documents 0 and 1 in turn. */
+static void build_worst(lent *l, size_t rows) {
+  for (size_t k = 0; k < WORDS; k++) l->words[k] = k < 3 ? (uint32_t)rows : 0;
+  for (uint32_t i = 0; i < rows; i++) {
+    row(l, i)[0] = i;
+    row(l, i)[1] = (uint32_t)rows - 1 - i;
+    row(l, i)[2] = i == 0 ? NONE : i > 1 ? (i + 1) % 2 : 0;
+    row(l, i)[3] = 1;
+  }
+}
+
+/* Runs of the whole length, and the record of a shape with so many of its 512 rows in use. */
+static void build_shape(lent *l, int shape, size_t rows) {
+  l->shape = shapes[shape];
+  l->n = WORDS;
+  l->first_n = 4 * ROWS;
+  l->second_n = ROWS;
+  l->bytes_n = BYTES;
+  if (shape == WORST) build_worst(l, rows);
+  else build_called(l, shape, rows);
+}
+
+/* What becomes of a shape: with a row left; with all rows in use; with a navigation from its last document, or from its root's, for the
+   last row; the former gone all the way back; with a row left and no number. */
+enum { SPARE, FULL, STEPPED, HIDDEN, BACK, USED_UP, STATES };
+static const char *const states[] = {"a row left", "full", "a step last", "its root navigated", "all steps upcoming", "no number left"};
+
+static void build_state(lent *l, int shape, int state) {
+  l->state = states[state];
+  build_shape(l, shape, state == FULL ? ROWS : ROWS - 1);
+  if (state == STEPPED || state == BACK) build(navigate, l, last(l)[0]);
+  if (state == HIDDEN) build(navigate, l, row(l, 0)[0]);
+  if (state == BACK) build(traverse, l, -build(position, l, 0));
+  if (state == USED_UP) l->words[1] = l->words[2] = NONE;
+}
+
+/* How many levels of documents are visible, by the outline. */
+static void count_levels(lent *l) {
+  uint32_t pairs = build(outline, l, 0), depth = 0;
+  for (uint32_t i = 0; i < pairs; i++) if (depth < l->first[2 * i]) depth = l->first[2 * i];
+  l->levels = depth + 1;
+}
+
+/* Open and Navigate from the last document, Navigate from the second where all steps are upcoming, and both from a document that is hidden
+   at the end of the longest climb. */
+static void on_growing(lent *l, int state) {
+  static const uint32_t answers[] = {0, FRAME_HISTORY_FULL, FRAME_HISTORY_FULL, FRAME_HISTORY_FULL, FRAME_HISTORY_HIDDEN, FRAME_HISTORY_USED_UP};
+  made *const grow[] = {open, navigate};
+  for (int g = 0; g < 2; g++) {
+    try(grow[g], l, last(l)[0], answers[state]);
+    try(grow[g], l, l->words[1], FRAME_HISTORY_ABSENT);
+    if (state == HIDDEN) try(grow[g], l, last(l)[-4], FRAME_HISTORY_HIDDEN);
+  }
+  if (state == BACK) try(navigate, l, row(l, 1)[0], 0);
+}
+
+/* Drop of the root frame, of none, of the second row's frame, and of the last row's frame or the one before it. */
+static void on_drop(lent *l, int state) {
+  uint32_t answer = state == HIDDEN ? FRAME_HISTORY_HIDDEN : 0;
+  try(drop, l, row(l, 0)[1], FRAME_HISTORY_ROOT_FRAME);
+  try(drop, l, l->words[2], FRAME_HISTORY_ABSENT);
+  if (l->words[0] == 1) return;
+  try(drop, l, row(l, 1)[1], answer);
+  try(drop, l, last(l)[state == HIDDEN ? -3 : 1], answer);
+}
+
+/* Both calls that traverse: not at all, one step and all steps either way, a step too far, the least number, and with no room. */
+static void on_traverse(lent *l) {
+  made *const both[] = {traverse, traverse_rows};
+  uint32_t taken = build(position, l, 0), upcoming = l->outs[1] - taken;
+  for (int b = 0; b < 2; b++) {
+    try(both[b], l, 0, 0);
+    try(both[b], l, -taken, 0);
+    try(both[b], l, upcoming, 0);
+    try(both[b], l, -taken - 1, FRAME_HISTORY_BEYOND);
+    try(both[b], l, upcoming + 1, FRAME_HISTORY_BEYOND);
+    try(both[b], l, 2147483648u, FRAME_HISTORY_BEYOND);
+    if (taken > 0) try(both[b], l, -1u, 0);
+    if (upcoming > 0) try(both[b], l, 1, 0);
+    l->first_n = 0;
+    if (taken > 0) try(both[b], l, -taken, FRAME_HISTORY_SHORT_BUFFER);
+    if (upcoming > 0) try(both[b], l, upcoming, FRAME_HISTORY_SHORT_BUFFER);
+    l->first_n = 4 * ROWS;
+  }
+}
+
+/* Position; Visible of the last document, the one before it, the root's, and one that is not there. */
+static void on_asking(lent *l) {
+  try(position, l, 0, 0);
+  try(visible, l, last(l)[0], 0);
+  if (l->words[0] > 1) try(visible, l, last(l)[-4], 0);
+  try(visible, l, row(l, 0)[0], 0);
+  try(visible, l, l->words[1], FRAME_HISTORY_ABSENT);
+}
+
+/* Lists with more room than they need, with just as much, and with a word less in each run. */
+static void on_lists(lent *l) {
+  uint32_t taken = build(position, l, 0), upcoming = l->outs[1] - taken;
+  try(lists, l, 0, 0);
+  l->first_n = taken;
+  l->second_n = upcoming;
+  try(lists, l, 0, 0);
+  l->first_n = taken - 1;
+  if (taken > 0) try(lists, l, 0, FRAME_HISTORY_SHORT_BUFFER);
+  l->first_n = taken;
+  l->second_n = upcoming - 1;
+  if (upcoming > 0) try(lists, l, 0, FRAME_HISTORY_SHORT_BUFFER);
+  l->first_n = 4 * ROWS;
+  l->second_n = ROWS;
+}
+
+/* Outline and Save likewise. */
+static void on_writing(lent *l) {
+  try(outline, l, 0, 0);
+  l->first_n = 2 * build(outline, l, 0);
+  try(outline, l, 0, 0);
+  l->first_n--;
+  try(outline, l, 0, FRAME_HISTORY_SHORT_BUFFER);
+  l->first_n = 4 * ROWS;
+  try(save, l, 0, 0);
+  l->bytes_n = build(save, l, 0);
+  try(save, l, 0, 0);
+  l->bytes_n--;
+  try(save, l, 0, FRAME_HISTORY_SHORT_BUFFER);
+  l->bytes_n = BYTES;
+}
+
+/* A number of saved bytes. */
+static void put(uint8_t *bytes, uint32_t v) { for (int i = 0; i < 4; i++) bytes[i] = (uint8_t)(v >> (24 - 8 * i)); }
+static uint32_t get(const uint8_t *b) { return (uint32_t)b[0] << 24 | (uint32_t)b[1] << 16 | (uint32_t)b[2] << 8 | b[3]; }
+
+/* Load of saved bytes with a number changed. */
+static void on_changed(lent *l, size_t at, uint32_t v) {
+  uint32_t was = get(l->bytes + at);
+  put(l->bytes + at, v);
+  try(load, l, 0, FRAME_HISTORY_NOT_SAVED);
+  put(l->bytes + at, was);
+}
+
+/* Load of what Save writes; of the same bytes cut, longer, empty, with each number of the head, of the last frame and of the last document
+   changed; and into a record with room for one row. */
+static void on_load(lent *l) {
+  size_t length = l->bytes_n = build(save, l, 0), frame = 16 * get(l->bytes) - 4, docs = get(l->bytes + frame + 8);
+  try(load, l, 0, 0);
+  on_changed(l, 0, get(l->bytes) + 1);
+  on_changed(l, 4, 0);
+  on_changed(l, 8, 0);
+  on_changed(l, frame, NONE);
+  on_changed(l, frame + 4, NONE - 1);
+  on_changed(l, frame + 8, (uint32_t)docs + 1);
+  on_changed(l, frame + 12, (uint32_t)docs);
+  on_changed(l, length - 4, NONE);
+  const size_t lengths[] = {0, length - 1, length + 1};
+  for (int i = 0; i < 3; i++) {
+    l->bytes_n = lengths[i] < BYTES ? lengths[i] : 0;
+    try(load, l, 0, FRAME_HISTORY_NOT_SAVED);
+  }
+  l->bytes_n = length;
+  l->n = 7;
+  try(load, l, 0, l->words[0] > 1 ? FRAME_HISTORY_FULL : 0);
+  l->n = WORDS;
+  l->bytes_n = BYTES;
+}
+
+/* Every call on a sound record. */
+static void on_sound(lent *l, int state) {
+  count_levels(l);
+  try(fresh, l, 0, 0);
+  on_growing(l, state);
+  on_drop(l, state);
+  on_traverse(l);
+  on_asking(l);
+  on_lists(l);
+  on_writing(l);
+  on_load(l);
+}
+
+/* Every call that begins with the test of soundness, on a record with a word changed. */
+static void on_unsound(lent *l, uint32_t *word, uint32_t v) {
+  uint32_t was = *word;
+  *word = v;
+  for (int c = 0; c < CALLS; c++) if (calls[c].begins == 2) try(calls[c].make, l, row(l, 0)[0], FRAME_HISTORY_UNSOUND);
+  *word = was;
+}
+
+/* Those on a record with each word of its head and of its last row changed, and with a word past its rows. */
+static void on_damaged(lent *l) {
+  on_unsound(l, l->words, ROWS + 1);
+  on_unsound(l, l->words + 1, 0);
+  on_unsound(l, l->words + 2, 0);
+  on_unsound(l, last(l), 0);
+  on_unsound(l, last(l) + 1, NONE);
+  on_unsound(l, last(l) + 2, NONE - 1);
+  on_unsound(l, last(l) + 3, 2);
+  on_unsound(l, last(l) + 3, 1 - last(l)[3]);
+  if (l->words[0] < ROWS) on_unsound(l, l->words + WORDS - 1, 1);
+}
+
+/* Every call that is lent a record, on one that is too short; and Stretch, which is lent none. */
+static void on_others(lent *l) {
+  l->state = "six words";
+  l->n = 6;
+  for (int c = 0; c < CALLS; c++) if (calls[c].begins > 0) try(calls[c].make, l, 0, FRAME_HISTORY_SHORT_RECORD);
+  l->shape = "two lists";
+  l->state = "512 entries each";
+  l->first_n = ROWS;
+  try(stretch, l, 0, 0);
+  try(stretch, l, ROWS, 0);
+  try(stretch, l, -(uint32_t)ROWS, 0);
+  try(stretch, l, ROWS + 1, FRAME_HISTORY_BEYOND);
+  try(stretch, l, -(uint32_t)ROWS - 1, FRAME_HISTORY_BEYOND);
+  try(stretch, l, 2147483648u, FRAME_HISTORY_BEYOND);
+}
+
+/* The line of a call. */
+static void print(int c) {
+  printf("| %s | %zu | %zu | %s, %s | %zu |", calls[c].name, found[c].least, found[c].most, found[c].shape, found[c].state, found[c].bound);
+  for (int k = 0; k < 32; k++) if (found[c].answers >> k & 1) printf(" %d", k);
+  printf(" | %s |\n", calls[c].keeps);
+}
+
+int main(void) {
+  static lent l;
+  make_stack();
+  for (int shape = 0; shape < SHAPES; shape++)
+    for (int state = 0; state < STATES; state++) {
+      build_state(&l, shape, state);
+      on_sound(&l, state);
+      if (state == SPARE || state == FULL || state == BACK) on_damaged(&l);
+    }
+  l.shape = "fresh";
+  l.state = "room for 512 rows";
+  build(fresh, &l, 0);
+  on_sound(&l, SPARE);
+  on_others(&l);
+  for (int c = 0; c < CALLS; c++) print(c);
+  return missed;
+}
