@@ -1,6 +1,7 @@
 /* A clerk at the order desk: a stock list and a quotation side by side in one window. The clerk goes on in both, goes back once, and
-   follows another link. What was ahead is gone, and its number never comes back. Then the clerk picks cash sale, and the quotation's
-   page takes its price frame out.
+   follows another link. What was ahead is gone, and its number never comes back. A click that comes too late, from a frame that is no
+   longer to be seen, is refused, and support is told which document hides it. Then the clerk picks cash sale, and the quotation's page
+   takes its price frame out.
 
    Link with libframe_history.a, which `rt staticlib frame_history` writes. */
 #include "frame_history.h"
@@ -21,44 +22,73 @@ static void stands(const uint32_t *words) {
     printf("  position %u of %u, length %u\n", (unsigned)position, (unsigned)steps, (unsigned)length);
 }
 
-int main(void) {
-  uint32_t words[WORDS], changes[4 * ROWS], count, frame, stock, quotation, more, terms, other, prices, removed, answer = 7, number;
-
-  if (refused("fresh", frame_history_fresh(words, WORDS))) return 1;
-  if (refused("open", frame_history_open(words, WORDS, 0, &stock, &frame))) return 1;
-  printf("stock list: document %u in frame %u\n", (unsigned)stock, (unsigned)frame);
-  if (refused("open", frame_history_open(words, WORDS, 0, &quotation, &frame))) return 1;
-  printf("quotation: document %u in frame %u\n", (unsigned)quotation, (unsigned)frame);
-  stands(words);
-
-  if (refused("navigate", frame_history_navigate(words, WORDS, stock, &more))) return 1;
-  printf("next page of the stock list: document %u\n", (unsigned)more);
-  if (refused("navigate", frame_history_navigate(words, WORDS, quotation, &terms))) return 1;
-  printf("price terms: document %u\n", (unsigned)terms);
-  stands(words);
-
-  if (refused("traverse", frame_history_traverse(words, WORDS, -1, changes, 4 * ROWS, &count))) return 1;
-  printf("back: %u change\n", (unsigned)count);
+/* Goes back or forward, and tells what changed. */
+static int go(uint32_t *words, const char *where, int32_t delta) {
+  uint32_t changes[4 * ROWS], count;
+  if (refused("traverse", frame_history_traverse(words, WORDS, delta, changes, 4 * ROWS, &count))) return 1;
+  printf("%s: %u %s\n", where, (unsigned)count, count == 1 ? "change" : "changes");
   for (uint32_t i = 0; i < count; i++)
     printf("  frame %u: document %u, then %u, visible %u\n", (unsigned)changes[4 * i], (unsigned)changes[4 * i + 1],
            (unsigned)changes[4 * i + 2], (unsigned)changes[4 * i + 3]);
   stands(words);
+  return 0;
+}
 
-  if (refused("navigate", frame_history_navigate(words, WORDS, quotation, &other))) return 1;
+/* Whether a document is visible, and if it is not, which document hides it. */
+static void sight(const uint32_t *words, uint32_t document) {
+  uint32_t answer, hiding;
+  if (refused("visible", frame_history_visible(words, WORDS, document, &answer, &hiding))) return;
+  if (answer == 1) printf("  document %u is visible\n", (unsigned)document);
+  else printf("  document %u is hidden by document %u\n", (unsigned)document, (unsigned)hiding);
+}
+
+/* A click in a document that is hidden: `hiding` is the one out word that a refusal writes, and refusal 5 alone writes it. */
+static int click(uint32_t *words, uint32_t from, uint32_t hider) {
+  uint32_t document = 7, hiding = 7, number = frame_history_navigate(words, WORDS, from, &document, &hiding);
+  printf("a late click in document %u: refused, number %u, hidden by document %u\n", (unsigned)from, (unsigned)number, (unsigned)hiding);
+  return number != FRAME_HISTORY_HIDDEN || hiding != hider || document != 7;
+}
+
+int main(void) {
+  uint32_t words[WORDS], frame, stock, quotation, more, terms, other, prices, removed, answer = 7, hiding = 7, number;
+
+  if (refused("fresh", frame_history_fresh(words, WORDS))) return 1;
+  if (refused("open", frame_history_open(words, WORDS, 0, &stock, &frame, &hiding))) return 1;
+  printf("stock list: document %u in frame %u\n", (unsigned)stock, (unsigned)frame);
+  if (refused("open", frame_history_open(words, WORDS, 0, &quotation, &frame, &hiding))) return 1;
+  printf("quotation: document %u in frame %u\n", (unsigned)quotation, (unsigned)frame);
+  stands(words);
+
+  if (refused("navigate", frame_history_navigate(words, WORDS, stock, &more, &hiding))) return 1;
+  printf("next page of the stock list: document %u\n", (unsigned)more);
+  if (refused("navigate", frame_history_navigate(words, WORDS, quotation, &terms, &hiding))) return 1;
+  printf("price terms: document %u\n", (unsigned)terms);
+  stands(words);
+
+  if (go(words, "back", -1)) return 1;
+
+  if (refused("navigate", frame_history_navigate(words, WORDS, quotation, &other, &hiding))) return 1;
   printf("another link: document %u, not %u\n", (unsigned)other, (unsigned)terms);
   stands(words);
 
-  if (refused("open", frame_history_open(words, WORDS, other, &prices, &frame))) return 1;
+  if (refused("open", frame_history_open(words, WORDS, other, &prices, &frame, &hiding))) return 1;
   printf("prices: document %u in frame %u\n", (unsigned)prices, (unsigned)frame);
-  if (refused("navigate", frame_history_navigate(words, WORDS, prices, &more))) return 1;
+  if (refused("navigate", frame_history_navigate(words, WORDS, prices, &more, &hiding))) return 1;
   printf("next page of the prices: document %u\n", (unsigned)more);
   stands(words);
 
-  if (refused("drop", frame_history_drop(words, WORDS, frame, &removed))) return 1;
+  if (go(words, "back twice", -2)) return 1;
+  sight(words, quotation);
+  sight(words, other);
+  sight(words, prices);
+  if (click(words, prices, other) || go(words, "forward twice", 2)) return 1;
+
+  if (refused("drop", frame_history_drop(words, WORDS, frame, &removed, &hiding))) return 1;
   printf("cash sale: frame %u goes, %u rows\n", (unsigned)frame, (unsigned)removed);
   stands(words);
 
-  number = frame_history_visible(words, WORDS, terms, &answer);
-  printf("document %u: refused, number %u; the out word still holds %u\n", (unsigned)terms, (unsigned)number, (unsigned)answer);
-  return number == FRAME_HISTORY_ABSENT && other != terms && answer == 7 ? 0 : 1;
+  number = frame_history_visible(words, WORDS, terms, &answer, &hiding);
+  printf("document %u: refused, number %u; the out words still hold %u and %u\n", (unsigned)terms, (unsigned)number, (unsigned)answer,
+         (unsigned)hiding);
+  return number == FRAME_HISTORY_ABSENT && other != terms && answer == 7 && hiding == 7 ? 0 : 1;
 }

@@ -1,7 +1,11 @@
 /* The joint session history of one window, kept in a run of 32-bit words that the host lends.
 
    Each call returns 0, or the number of the refusal (below). A refused call changes no word and no byte that was lent to it:
-   the record, the answer runs and the out words all keep what they held.
+   the record, the answer runs and the out words all keep what they held. There is one exception, the only word that a refusal writes:
+   the last out word of open, navigate and drop, `hiding`. Refusal 5, and nothing else, writes it: the document that hides the one that
+   has to be visible. On every other refusal, and where the call is accepted, it too keeps what it held.
+
+   The document that hides one that is not visible is the nearest document, itself first and then upwards, that is not shown.
 
    A lent run is a pointer and then a count of elements (not of bytes). The library keeps no pointer after a call returns and allocates nothing.
    Pointers are aligned for their type and not null, even where the count is 0. Runs and out words of one call must not overlap,
@@ -56,21 +60,25 @@ enum {
 uint32_t frame_history_fresh(uint32_t *words, size_t n);
 
 /* Opens a frame under the visible document `parent`.
-   Lent to write: the record. Out: the numbers of the new document and of its frame; both kept on refusal.
+   Lent to write: the record. Out: the numbers of the new document and of its frame, both kept on refusal; and `hiding`: on refusal 5 the
+   document that hides `parent`, kept otherwise.
    Refused: 1, 2, 4, 5, 7, 8. */
-uint32_t frame_history_open(uint32_t *words, size_t n, uint32_t parent, uint32_t *document, uint32_t *frame);
+uint32_t frame_history_open(uint32_t *words, size_t n, uint32_t parent, uint32_t *document, uint32_t *frame,
+                            uint32_t *hiding);
 
 /* Navigates from the visible document `from`, in its frame: every upcoming step of the window goes, with everything beneath those,
    and a new document is shown in place of `from`, which stays as a step back.
-   Lent to write: the record. Out: the number of the new document; kept on refusal.
+   Lent to write: the record. Out: the number of the new document, kept on refusal; and `hiding`: on refusal 5 the document that hides
+   `from`, kept otherwise.
    Refused: 1, 2, 4, 5, 7, 8. */
-uint32_t frame_history_navigate(uint32_t *words, size_t n, uint32_t from, uint32_t *document);
+uint32_t frame_history_navigate(uint32_t *words, size_t n, uint32_t from, uint32_t *document, uint32_t *hiding);
 
 /* Takes out the frame `frame`, with everything beneath it: its rows and those go, shown or not, and the gaps close in order. The other
    rows keep their flags, and the numbers of what went are not given again. The document that holds the frame must be visible.
-   Lent to write: the record. Out: how many rows went; kept on refusal.
+   Lent to write: the record. Out: how many rows went, kept on refusal; and `hiding`: on refusal 5 the document that hides the one that
+   holds the frame, kept otherwise.
    Refused: 1, 2, 4, 10, 5, in this order. */
-uint32_t frame_history_drop(uint32_t *words, size_t n, uint32_t frame, uint32_t *removed);
+uint32_t frame_history_drop(uint32_t *words, size_t n, uint32_t frame, uint32_t *removed, uint32_t *hiding);
 
 /* Goes `delta` steps forward, or back where it is negative; 0 changes nothing.
    Lent to write: the record, and `changes` for change rows of four words each, one for each frame whose shown document changes, by
@@ -99,10 +107,11 @@ uint32_t frame_history_traverse_rows(uint32_t *words, size_t n, int32_t delta, f
    Refused: 1, 2. */
 uint32_t frame_history_position(const uint32_t *words, size_t n, uint32_t *position, uint32_t *steps, uint32_t *length);
 
-/* Whether a document is visible.
-   Lent to read: the record. Out: 1 or 0; kept on refusal.
+/* Whether a document is visible, and if it is not, which document hides it.
+   Lent to read: the record. Out: 1 or 0; and `hiding`: the document that hides it, or 4294967295 where the answer is 1. All kept on
+   refusal.
    Refused: 1, 2, 4. */
-uint32_t frame_history_visible(const uint32_t *words, size_t n, uint32_t document, uint32_t *answer);
+uint32_t frame_history_visible(const uint32_t *words, size_t n, uint32_t document, uint32_t *answer, uint32_t *hiding);
 
 /* The documents of the taken steps, latest first, and of the upcoming steps, earliest first.
    Lent to read: the record. Lent to write: a run for each list; words past a list are kept.

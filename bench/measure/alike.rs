@@ -1,6 +1,6 @@
 //! Both libraries must answer alike and leave the same in all that is lent.
 use crate::calls::{Call, Lent, make};
-use crate::cases::Case;
+use crate::cases::{Case, after, last};
 use crate::face::{OURS, TWIN};
 
 /// Makes a call with both libraries; the answer, and what is left.
@@ -68,5 +68,17 @@ pub fn check_near(case: &Case) {
     }
     for lent in damaged(&case.lent) {
         both(case.name, case.call, &lent);
+    }
+}
+
+/// Fails where the libraries differ on a record whose root is navigated: every document but the new one is then hidden, by itself or from above.
+pub fn check_hidden(words: &[u32]) {
+    let lent = Lent::new(after(Call::Navigate(0), words).words);
+    let (_, told) = both("hidden", Call::Visible(last(words)), &lent);
+    assert_eq!(told.outs[..2], [0, 0], "the last document is not hidden by the root's");
+    for call in [Call::Open(0), Call::Navigate(0), Call::Drop(0), Call::Visible(0)] {
+        for call in others(call, lent.words[0] + 1) {
+            both("hidden", call, &lent);
+        }
     }
 }

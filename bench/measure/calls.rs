@@ -50,12 +50,12 @@ pub fn make(face: &Face, call: Call, lent: &mut Lent) -> u32 {
     let answer = unsafe {
         match call {
             Call::Fresh => (face.fresh)(words, count),
-            Call::Open(parent) => (face.open)(words, count, black_box(parent), a, b),
-            Call::Navigate(from) => (face.navigate)(words, count, black_box(from), a),
+            Call::Open(parent) => (face.open)(words, count, black_box(parent), a, b, c),
+            Call::Navigate(from) => (face.navigate)(words, count, black_box(from), a, b),
             Call::Traverse(delta) => (face.traverse)(words, count, black_box(delta), first, first_count, a),
-            Call::Drop(frame) => (face.drop)(words, count, black_box(frame), a),
+            Call::Drop(frame) => (face.drop)(words, count, black_box(frame), a, b),
             Call::Position => (face.position)(words, count, a, b, c),
-            Call::Visible(document) => (face.visible)(words, count, black_box(document), a),
+            Call::Visible(document) => (face.visible)(words, count, black_box(document), a, b),
             Call::Lists => (face.lists)(words, count, first, first_count, second, second_count, a, b),
             Call::Stretch(delta) => (face.stretch)(first, first_count, second, second_count, black_box(delta), a),
             Call::Outline => (face.outline)(words, count, first, first_count, a),

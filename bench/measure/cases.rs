@@ -18,7 +18,7 @@ pub fn after(call: Call, words: &[u32]) -> Lent {
 }
 
 /// The document of the last row.
-fn last(words: &[u32]) -> u32 {
+pub fn last(words: &[u32]) -> u32 {
     words[4 * words[0] as usize - 1]
 }
 

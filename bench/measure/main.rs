@@ -67,6 +67,7 @@ fn print_shape(shape: Shape, times: &mut impl Iterator<Item = f64>) {
     let sizes = sizes(shape);
     sizes.iter().flatten().for_each(alike::check);
     sizes[..2].iter().flatten().for_each(alike::check_near);
+    ROWS[..2].iter().for_each(|&rows| alike::check_hidden(&record(shape, rows - 1, rows)));
     let pass = ROWS.map(|_| next());
     let most_passes = if shape == Shape::Desk { PASSES } else { f64::MAX };
     println!("{HEAD}");

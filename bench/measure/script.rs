@@ -33,6 +33,14 @@ fn some_visible(lent: &mut Lent, random: &mut Random) -> u32 {
     lent.first[2 * random.below(pairs) as usize + 1]
 }
 
+/// A document that Navigate refuses: one that is hidden, or where a visible one is met one that is not there.
+fn some_refused(lent: &mut Lent, random: &mut Random) -> u32 {
+    let pairs = asked(lent, Call::Outline) as usize;
+    let document = lent.words[3 + 4 * random.below(lent.words[0]) as usize];
+    let seen = lent.first[..2 * pairs].as_chunks::<2>().0.iter().any(|pair| pair[1] == document);
+    if seen { u32::MAX } else { document }
+}
+
 /// The frame of the last visible document in the outline; the root frame where there is no other.
 fn last_frame(lent: &mut Lent) -> u32 {
     let pairs = asked(lent, Call::Outline);
@@ -55,7 +63,7 @@ pub fn write(lines: usize, out: &mut impl Write) -> std::io::Result<()> {
             (_, 6..=8) => ("open", Call::Open(some_visible(lent, &mut random))),
             (_, 9..=13) => ("go", Call::Traverse(-1)),
             (_, 14..=17) => ("go", Call::Traverse(1)),
-            (_, 18) => ("nav", Call::Navigate(u32::MAX)),
+            (_, 18) => ("nav", Call::Navigate(some_refused(lent, &mut random))),
             (_, 19) => ("drop", Call::Drop(last_frame(lent))),
             _ => ("back", Call::Position),
         };

@@ -1,5 +1,5 @@
 //! The calls as a host in C would call them, so that both libraries are measured through the same face: see include/frame_history.h.
-use crate::record::Refusal;
+use crate::record::{NONE, Refusal};
 use crate::{asks, moves, outline, saved, traverse};
 use std::slice::{from_raw_parts as lent, from_raw_parts_mut as lent_mut};
 
@@ -10,8 +10,16 @@ fn answer<T>(result: Result<T, Refusal>, give: impl FnOnce(T)) -> u32 {
             give(values);
             0
         }
-        Err(refusal) => refusal as u32,
+        Err(refusal) => refusal.number(),
     }
+}
+
+/// The same of a call whose refusal 5 hands over the document that hides the one that has to be visible.
+fn answer_hiding<T>(result: Result<T, Refusal>, hiding: &mut u32, give: impl FnOnce(T)) -> u32 {
+    if let Err(Refusal::Hidden(document)) = result {
+        *hiding = document;
+    }
+    answer(result, give)
 }
 
 /// The record of a new window.
@@ -20,13 +28,13 @@ pub unsafe extern "C" fn fresh(words: *mut u32, count: usize) -> u32 {
 }
 
 /// Opens a frame: document and frame.
-pub unsafe extern "C" fn open(words: *mut u32, count: usize, parent: u32, document: &mut u32, frame: &mut u32) -> u32 {
-    answer(moves::open(lent_mut(words, count), parent), |numbers| (*document, *frame) = numbers)
+pub unsafe extern "C" fn open(words: *mut u32, count: usize, parent: u32, document: &mut u32, frame: &mut u32, hiding: &mut u32) -> u32 {
+    answer_hiding(moves::open(lent_mut(words, count), parent), hiding, |numbers| (*document, *frame) = numbers)
 }
 
 /// Navigates: the new document.
-pub unsafe extern "C" fn navigate(words: *mut u32, count: usize, from: u32, document: &mut u32) -> u32 {
-    answer(moves::navigate(lent_mut(words, count), from), |number| *document = number)
+pub unsafe extern "C" fn navigate(words: *mut u32, count: usize, from: u32, document: &mut u32, hiding: &mut u32) -> u32 {
+    answer_hiding(moves::navigate(lent_mut(words, count), from), hiding, |number| *document = number)
 }
 
 /// Traverses: how many change rows.
@@ -35,8 +43,8 @@ pub unsafe extern "C" fn traverse(words: *mut u32, count: usize, delta: i32, cha
 }
 
 /// Takes a frame out: how many rows went.
-pub unsafe extern "C" fn drop(words: *mut u32, count: usize, frame: u32, removed: &mut u32) -> u32 {
-    answer(moves::drop_frame(lent_mut(words, count), frame), |n| *removed = n as u32)
+pub unsafe extern "C" fn drop(words: *mut u32, count: usize, frame: u32, removed: &mut u32, hiding: &mut u32) -> u32 {
+    answer_hiding(moves::drop_frame(lent_mut(words, count), frame), hiding, |n| *removed = n as u32)
 }
 
 /// Position, steps, and the length for scripts.
@@ -44,9 +52,9 @@ pub unsafe extern "C" fn position(words: *const u32, count: usize, position: &mu
     answer(asks::position(lent(words, count)), |(p, s)| (*position, *steps, *length) = (p as u32, s as u32, s as u32 + 1))
 }
 
-/// Whether a document is visible.
-pub unsafe extern "C" fn visible(words: *const u32, count: usize, document: u32, seen: &mut u32) -> u32 {
-    answer(asks::visible(lent(words, count), document), |yes| *seen = yes as u32)
+/// Whether a document is visible, and who hides it.
+pub unsafe extern "C" fn visible(words: *const u32, count: usize, document: u32, seen: &mut u32, hiding: &mut u32) -> u32 {
+    answer(asks::visible(lent(words, count), document), |hider| (*seen, *hiding) = (hider.is_none() as u32, hider.unwrap_or(NONE)))
 }
 
 /// Taken and upcoming steps: how many of each.

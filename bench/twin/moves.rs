@@ -1,5 +1,5 @@
 //! Fresh, Open, Navigate and Drop.
-use crate::record::{FRAME, NONE, PARENT, Refusal, Row, SHOWN, capacity, climb, examine, find, locate, room_mut};
+use crate::record::{FRAME, NONE, PARENT, Refusal, Row, SHOWN, capacity, examine, find, hider, locate, room_mut};
 
 /// The record of a new window.
 pub fn fresh(words: &mut [u32]) -> Result<(), Refusal> {
@@ -16,7 +16,7 @@ pub fn fresh(words: &mut [u32]) -> Result<(), Refusal> {
 /// Refusals 4 and 5.
 fn judge_visible(rows: &[Row], document: u32) -> Result<(), Refusal> {
     let at = find(rows, document).ok_or(Refusal::Absent)?;
-    if climb(rows, at) { Ok(()) } else { Err(Refusal::Hidden) }
+    hider(rows, at).map_or(Ok(()), |document| Err(Refusal::Hidden(document)))
 }
 
 /// Opens a frame: the new document and its frame.

@@ -93,10 +93,14 @@ impl Window {
         let (position, steps) = asks::position(&self.words).unwrap_or((0, 0));
         let (word, number) = match result {
             Ok(number) => (b"ok ", number),
-            Err(refusal) => (b"no ", refusal as usize),
+            Err(refusal) => (b"no ", refusal.number() as usize),
         };
         out.extend(word);
         put_decimal(out, number);
+        if let Err(Refusal::Hidden(document)) = result {
+            out.extend(b" at ");
+            put_decimal(out, document as usize);
+        }
         out.push(b' ');
         put_decimal(out, position);
         out.push(b'/');

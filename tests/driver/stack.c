@@ -32,9 +32,9 @@ typedef uint32_t made(lent *);
 /* Each makes one call. It ends with a jump into the library and so uses no stack of its own; that of lists, which has more arguments than
    go in registers, uses 16 bytes. */
 static uint32_t fresh(lent *l) { return frame_history_fresh(l->words, l->n); }
-static uint32_t open(lent *l) { return frame_history_open(l->words, l->n, l->number, l->outs, l->outs + 1); }
-static uint32_t navigate(lent *l) { return frame_history_navigate(l->words, l->n, l->number, l->outs); }
-static uint32_t drop(lent *l) { return frame_history_drop(l->words, l->n, l->number, l->outs); }
+static uint32_t open(lent *l) { return frame_history_open(l->words, l->n, l->number, l->outs, l->outs + 1, l->outs + 2); }
+static uint32_t navigate(lent *l) { return frame_history_navigate(l->words, l->n, l->number, l->outs, l->outs + 1); }
+static uint32_t drop(lent *l) { return frame_history_drop(l->words, l->n, l->number, l->outs, l->outs + 1); }
 static uint32_t traverse(lent *l) {
   return frame_history_traverse(l->words, l->n, (int32_t)l->number, l->first, l->first_n, l->outs);
 }
@@ -42,7 +42,7 @@ static uint32_t traverse_rows(lent *l) {
   return frame_history_traverse_rows(l->words, l->n, (int32_t)l->number, (frame_history_change_row *)l->first, l->first_n / 4, l->outs);
 }
 static uint32_t position(lent *l) { return frame_history_position(l->words, l->n, l->outs, l->outs + 1, l->outs + 2); }
-static uint32_t visible(lent *l) { return frame_history_visible(l->words, l->n, l->number, l->outs); }
+static uint32_t visible(lent *l) { return frame_history_visible(l->words, l->n, l->number, l->outs, l->outs + 1); }
 static uint32_t lists(lent *l) {
   return frame_history_lists(l->words, l->n, l->first, l->first_n, l->second, l->second_n, l->outs, l->outs + 1);
 }
@@ -65,7 +65,7 @@ static const struct { const char *name; made *make; int begins; size_t bound, le
   {"position", position, 2, FRAME_HISTORY_STACK, 0, "as open"},
   {"visible", visible, 2, FRAME_HISTORY_STACK, 0, "as open: the climb calls itself and is compiled to a loop"},
   {"lists", lists, 2, FRAME_HISTORY_STACK, 0, "as open, and two of its eight arguments"},
-  {"stretch", stretch, 0, FRAME_HISTORY_STACK, 0, "its return address"},
+  {"stretch", stretch, 0, FRAME_HISTORY_STACK, 0, "its return address and the answer, before it is told"},
   {"outline", outline, 2, FRAME_HISTORY_OUTLINE_STACK, FRAME_HISTORY_OUTLINE_LEVEL,
    "as open; and for each level a return address, saved registers and where it stands among a document's frames, since the outline of a "
    "document calls that of its frames (document 01)"},

@@ -1,14 +1,36 @@
 //! The calls. Each tests its refusals in the order of its table, so the first that applies is given; among document 01's nine that is the
-//! smallest number. An error is the number of the refusal; then nothing lent was written.
+//! smallest number. An error is the refusal; then nothing lent was written.
 use crate::history::History;
 use crate::record::{capacity, rows, write, Row, FEWEST_WORDS, NONE};
 use crate::saved::{bytes_of, record_of};
 use crate::sound::is_sound;
 
-pub type Answer<T> = Result<T, u32>;
+/// A refusal's number; and "refusal 5 [..] carries that number too", of the document that hides the one asked for.
+#[derive(Clone, Copy, Debug, PartialEq, Eq)]
+pub struct Refusal {
+    pub number: u32,
+    pub hiding: Option<u32>,
+}
+
+/// "A refusal returns its number alone."
+impl From<u32> for Refusal {
+    fn from(number: u32) -> Refusal {
+        Refusal { number, hiding: None }
+    }
+}
+
+pub type Answer<T> = Result<T, Refusal>;
+
+pub fn no<T>(number: u32) -> Answer<T> {
+    Err(number.into())
+}
+
+pub fn hidden_by<T>(document: u32) -> Answer<T> {
+    Err(Refusal { number: 5, hiding: Some(document) })
+}
 
 fn refuse_when(number: u32, given: bool) -> Answer<()> {
-    if given { Err(number) } else { Ok(()) }
+    if given { no(number) } else { Ok(()) }
 }
 
 /// Refusals 1 and 2, then the history that stands in the record.
@@ -23,8 +45,13 @@ fn examined(words: &[u32]) -> Answer<History> {
 /// Refusals 4 and 5, then the place of the document.
 fn visible_place(history: &History, number: u32) -> Answer<usize> {
     let place = history.place(number).ok_or(4u32)?;
-    refuse_when(5, !history.fully_active().contains(&number))?;
+    refuse_hidden(history, number)?;
     Ok(place)
+}
+
+/// Refusal 5: "document there, not visible".
+fn refuse_hidden(history: &History, document: u32) -> Answer<()> {
+    sight(history, document).hiding.map_or(Ok(()), hidden_by)
 }
 
 pub fn fresh(words: &mut [u32]) -> Answer<()> {
@@ -99,8 +126,8 @@ pub fn drop_frame(words: &mut [u32], frame: u32) -> Answer<u32> {
     // "4 for a frame not in the record [..] 10 for the root frame; 10 comes after 4 and before 5".
     let first = *own.first().ok_or(4u32)?;
     let holder = history.documents[first].parent.ok_or(10u32)?;
-    // "The document that holds the frame must be visible."
-    refuse_when(5, !history.fully_active().contains(&holder))?;
+    // "The document that holds the frame must be visible"; "for removal, that of the parent's climb".
+    refuse_hidden(&history, holder)?;
     let before = history.documents.len();
     history.delete(&own);
     let (next_document, next_frame) = (words[1], words[2]);
@@ -120,10 +147,28 @@ pub fn position(words: &[u32]) -> Answer<(u32, u32, u32)> {
     Ok((position, steps, steps + 1))
 }
 
-pub fn visible(words: &[u32], document: u32) -> Answer<bool> {
+/// What the visible question answers: "either that the document is visible or the number of the nearest document [..] that isn't shown".
+#[derive(Clone, Copy, Debug, PartialEq, Eq)]
+pub struct Sight {
+    pub hiding: Option<u32>,
+}
+
+impl Sight {
+    pub fn visible(self) -> bool {
+        self.hiding.is_none()
+    }
+}
+
+pub fn visible(words: &[u32], document: u32) -> Answer<Sight> {
     let history = examined(words)?;
     refuse_when(4, history.place(document).is_none())?;
-    Ok(history.fully_active().contains(&document))
+    Ok(sight(&history, document))
+}
+
+fn sight(history: &History, document: u32) -> Sight {
+    let hiding = history.hiding(document);
+    assert_eq!(hiding.is_none(), history.fully_active().contains(&document), "a document is visible or hidden by one that isn't shown");
+    Sight { hiding }
 }
 
 /// Answers the counts of taken and of upcoming steps.
@@ -140,7 +185,7 @@ pub fn lists(words: &[u32], taken: &mut [u32], upcoming: &mut [u32]) -> Answer<(
 /// Answers the part of the caller's own list: its first |δ| entries. The lists are taken as they stand.
 pub fn stretch<'a>(taken: &'a [u32], upcoming: &'a [u32], delta: i32) -> Answer<&'a [u32]> {
     let list = if delta >= 0 { upcoming } else { taken };
-    list.get(..delta.unsigned_abs() as usize).ok_or(6)
+    list.get(..delta.unsigned_abs() as usize).ok_or(6.into())
 }
 
 /// Answers the count of pairs (depth, document).

@@ -38,7 +38,7 @@ fn fresh_record(c: usize) -> Vec<u32> {
 }
 
 fn visible_documents(words: &[u32]) -> Vec<u32> {
-    rows(words).iter().map(|row| row.document).filter(|&d| visible(words, d) == Ok(true)).collect()
+    rows(words).iter().map(|row| row.document).filter(|&d| visible(words, d).is_ok_and(Sight::visible)).collect()
 }
 
 fn shown_documents(words: &[u32]) -> Vec<u32> {
@@ -47,6 +47,11 @@ fn shown_documents(words: &[u32]) -> Vec<u32> {
 
 fn documents(words: &[u32]) -> Vec<u32> {
     rows(words).iter().map(|row| row.document).collect()
+}
+
+/// What the visible question answers where a document is hidden by this one.
+fn hid(hiding: u32) -> Answer<Sight> {
+    Ok(Sight { hiding: Some(hiding) })
 }
 
 /// Traverse with ample room: the answer and the change rows.
@@ -63,6 +68,7 @@ pub fn check_all() -> u32 {
     numbered_examples(&mut checks);
     small_examples(&mut checks);
     drop_examples(&mut checks);
+    hiding_examples(&mut checks);
     saved_examples(&mut checks);
     sound_clauses(&mut checks);
     script_examples(&mut checks);
@@ -82,11 +88,11 @@ fn numbered_examples(c: &mut Checks) {
     let mut p3 = x.clone();
     c.same("P3 change rows", go(&mut p3, 1), Ok(vec![1, 1, 5, 1]));
     c.same("P3 4 is shown", shown_documents(&p3).contains(&4), true);
-    c.same("P3 4 is not visible", visible(&p3, 4), Ok(false));
+    c.same("P3 4 is not visible", visible(&p3, 4), hid(1));
 
     for (name, delta) in [("P4", 2), ("P4", -2), ("P5", i32::MIN), ("the other end", i32::MAX)] {
         let mut words = x.clone();
-        c.same(name, go(&mut words, delta), Err(6));
+        c.same(name, go(&mut words, delta), no(6));
         c.same(name, words, x.clone());
     }
 
@@ -98,15 +104,15 @@ fn numbered_examples(c: &mut Checks) {
     c.same("P7 change rows", go(&mut p6, -1), Ok(vec![1, 6, 1, 1]));
     c.same("P7 visible", visible_documents(&p6), vec![0, 1, 3, 4]);
 
-    for (from, refusal) in [(2, 5), (9, 4)] {
+    for (from, refusal) in [(2, hidden_by(2)), (9, no(4))] {
         let mut words = x.clone();
-        c.same("P8", navigate(&mut words, from), Err(refusal));
+        c.same("P8", navigate(&mut words, from), refusal);
         c.same("P8 keeps the words", words, x.clone());
     }
 
     let p9 = record(8, 5, 3, &[[0, 0, NONE, 1], [1, 1, 0, 1], [2, 2, 0, 0], [3, 1, 0, 0], [4, 2, 0, 1]]);
     c.same("P9 clause", broken(&p9), vec![7]);
-    c.same("P9 refused", position(&p9), Err(2));
+    c.same("P9 refused", position(&p9), no(2));
     c.same("P9 is not well formed", History::of(&rows(&p9)).well_formed(), false);
 
     let mut p10 = fresh_record(8);
@@ -123,18 +129,18 @@ fn numbered_examples(c: &mut Checks) {
     let mut p12 = fresh_record(3);
     c.same("P12 open 0", open(&mut p12, 0), Ok((1, 1)));
     c.same("P12 navigate 1", navigate(&mut p12, 1), Ok(2));
-    c.same("P12 full", navigate(&mut p12, 2), Err(7));
+    c.same("P12 full", navigate(&mut p12, 2), no(7));
     c.same("P12 by -1", go(&mut p12, -1), Ok(vec![1, 2, 1, 1]));
     c.same("P12 room after the removal", navigate(&mut p12, 1), Ok(3));
     c.same("P12 documents", documents(&p12), vec![0, 1, 3]);
 }
 
 fn small_examples(c: &mut Checks) {
-    c.same("six words", fresh(&mut [9; 6]), Err(1));
+    c.same("six words", fresh(&mut [9; 6]), no(1));
     let mut seven = [9; 7];
     c.same("seven words", fresh(&mut seven), Ok(()));
     c.same("fresh", seven, [1, 1, 1, 0, 0, NONE, 1]);
-    c.same("one row is taken", open(&mut seven, 0), Err(7));
+    c.same("one row is taken", open(&mut seven, 0), no(7));
     let mut ten = [9; 10];
     c.same("three words past the rows", fresh(&mut ten), Ok(()));
     c.same("words past 3 + 4C are kept", ten, [1, 1, 1, 0, 0, NONE, 1, 9, 9, 9]);
@@ -144,22 +150,22 @@ fn small_examples(c: &mut Checks) {
     c.same("lists of X", lists(&x, &mut taken, &mut upcoming), Ok((1, 1)));
     c.same("taken, the rest kept", taken, [4, 8, 8]);
     c.same("upcoming", upcoming, [5]);
-    c.same("no room for taken", lists(&x, &mut [], &mut upcoming), Err(9));
-    c.same("no room for upcoming", lists(&x, &mut taken, &mut []), Err(9));
+    c.same("no room for taken", lists(&x, &mut [], &mut upcoming), no(9));
+    c.same("no room for upcoming", lists(&x, &mut taken, &mut []), no(9));
     c.same("stretch forward", stretch(&[1, 2], &[3, 4, 5], 2), Ok(&[3, 4][..]));
     c.same("stretch by nothing", stretch(&[1, 2], &[], 0), Ok(&[][..]));
     c.same("stretch back", stretch(&[1, 2], &[3], -2), Ok(&[1, 2][..]));
-    c.same("stretch too far back", stretch(&[1, 2], &[3, 4, 5], -3), Err(6));
-    c.same("stretch by the least number", stretch(&[1, 2], &[3], i32::MIN), Err(6));
+    c.same("stretch too far back", stretch(&[1, 2], &[3, 4, 5], -3), no(6));
+    c.same("stretch by the least number", stretch(&[1, 2], &[3], i32::MIN), no(6));
     let mut pairs = [6; 9];
     c.same("outline of X", outline(&x, &mut pairs), Ok(4));
     c.same("pairs", pairs, [0, 0, 1, 1, 2, 4, 1, 3, 6]);
-    c.same("outline in seven words", outline(&x, &mut pairs[..7]), Err(9));
-    c.same("no change row lent", traverse(&mut x.clone(), 1, &mut [0; 3]), Err(9));
+    c.same("outline in seven words", outline(&x, &mut pairs[..7]), no(9));
+    c.same("no change row lent", traverse(&mut x.clone(), 1, &mut [0; 3]), no(9));
     c.same("nothing to change", traverse(&mut x.clone(), 0, &mut []), Ok(0));
-    c.same("not a document", visible(&x, NONE), Err(4));
+    c.same("not a document", visible(&x, NONE), no(4));
 
-    for (next_document, next_frame, wanted) in [(NONE, 4, Err(8)), (6, NONE, Err(8)), (NONE - 1, NONE - 1, Ok((NONE - 1, NONE - 1)))] {
+    for (next_document, next_frame, wanted) in [(NONE, 4, no(8)), (6, NONE, no(8)), (NONE - 1, NONE - 1, Ok((NONE - 1, NONE - 1)))] {
         let mut words = x.clone();
         words[1..3].copy_from_slice(&[next_document, next_frame]);
         c.same("open near the last number", open(&mut words, 0), wanted);
@@ -168,7 +174,7 @@ fn small_examples(c: &mut Checks) {
     frames_used[2] = NONE;
     c.same("navigate needs no frame number", navigate(&mut frames_used, 1), Ok(6));
     frames_used[1] = NONE;
-    c.same("navigate with all numbers used", navigate(&mut frames_used, 6), Err(8));
+    c.same("navigate with all numbers used", navigate(&mut frames_used, 6), no(8));
 }
 
 /// L1: "all its rows and all beneath them go, gaps close in order, the rest keeps its flags".
@@ -199,34 +205,70 @@ fn drop_examples(c: &mut Checks) {
     let mut forward = x.clone();
     go(&mut forward, 1).unwrap();
     for (name, frame, words, refusal) in [
-        ("X drop 0, the root frame", 0, &x, 10),
-        ("X drop 9, not a frame", 9, &x, 4),
-        ("X drop 5, a document and not a frame", 5, &x, 4),
-        ("X drop 4294967295", NONE, &x, 4),
-        ("X by +1, drop 2: 1 is hidden", 2, &forward, 5),
-        ("X by +1, drop 0", 0, &forward, 10),
+        ("X drop 0, the root frame", 0, &x, no(10)),
+        ("X drop 9, not a frame", 9, &x, no(4)),
+        ("X drop 5, a document and not a frame", 5, &x, no(4)),
+        ("X drop 4294967295", NONE, &x, no(4)),
+        ("X by +1, drop 2: 1 is hidden", 2, &forward, hidden_by(1)),
+        ("X by +1, drop 0", 0, &forward, no(10)),
     ] {
-        c.same(name, after(frame, words.clone()), (Err(refusal), words.clone()));
+        c.same(name, after(frame, words.clone()), (refusal, words.clone()));
     }
     let (removed, words) = after(1, forward);
     c.same("X by +1, drop 1: hidden rows go too", removed, Ok(4));
     c.same("X by +1, drop 1 words", words, record(8, 6, 4, &[root, third]));
-    c.same("six words", drop_frame(&mut [9; 6], 0), Err(1));
-    c.same("X with a row too many", drop_frame(&mut [&[7], &x[1..]].concat(), 0), Err(2));
+    c.same("six words", drop_frame(&mut [9; 6], 0), no(1));
+    c.same("X with a row too many", drop_frame(&mut [&[7], &x[1..]].concat(), 0), no(2));
 
     let mut again = fresh_record(8);
     c.same("open", open(&mut again, 0), Ok((1, 1)));
     c.same("drop", drop_frame(&mut again, 1), Ok(1));
     c.same("drop leaves the next numbers", again.clone(), record(8, 2, 2, &[root]));
     c.same("open once more: new numbers", open(&mut again, 0), Ok((2, 2)));
-    c.same("the old frame does not come back", drop_frame(&mut again, 1), Err(4));
+    c.same("the old frame does not come back", drop_frame(&mut again, 1), no(4));
 
     let mut full = fresh_record(3);
     c.same("full: open 0", open(&mut full, 0), Ok((1, 1)));
     c.same("full: navigate 1", navigate(&mut full, 1), Ok(2));
-    c.same("full", open(&mut full, 0), Err(7));
+    c.same("full", open(&mut full, 0), no(7));
     c.same("full: drop 1", drop_frame(&mut full, 1), Ok(2));
     c.same("full: room for an open", open(&mut full, 0), Ok((3, 2)));
+}
+
+/// L4: "the nearest document, itself first and then upwards, that isn't shown".
+fn hiding_examples(c: &mut Checks) {
+    // 1 and 3 are a frame under 0, beneath 1 comes 2 and beneath 2 comes 5; 4 took the place of 0, and 3 that of 1.
+    let nested = record(6, 6, 4, &[[0, 0, NONE, 0], [1, 1, 0, 0], [2, 2, 1, 1], [3, 1, 0, 1], [4, 0, NONE, 1], [5, 3, 2, 1]]);
+    for (name, document, wanted) in [
+        ("visible", 4, Ok(Sight { hiding: None })),
+        ("hidden by itself, with none above it", 0, hid(0)),
+        ("hidden by itself, and not by its parent", 1, hid(1)),
+        ("hidden by its parent, and not by the farthest", 2, hid(1)),
+        ("hidden by its parent's parent", 5, hid(1)),
+        ("hidden by the root's document", 3, hid(0)),
+        ("not a document", 6, no(4)),
+    ] {
+        c.same(name, visible(&nested, document), wanted);
+    }
+    for (name, document, wanted) in [("own", 1, 1), ("above", 2, 1), ("two above", 5, 1), ("root", 3, 0), ("root itself", 0, 0)] {
+        let mut words = nested.clone();
+        c.same(name, open(&mut words, document), hidden_by(wanted));
+        c.same(name, navigate(&mut words, document), hidden_by(wanted));
+        c.same(name, words, nested.clone());
+    }
+    for (name, frame, refusal) in [
+        ("the climb of 2, which holds the frame", 3, hidden_by(1)),
+        ("1 holds the frame and is not shown", 2, hidden_by(1)),
+        ("0 holds the frame and is not shown", 1, hidden_by(0)),
+        ("nothing holds the root frame", 0, no(10)),
+        ("not a frame", 4, no(4)),
+    ] {
+        let mut words = nested.clone();
+        c.same(name, drop_frame(&mut words, frame), refusal);
+        c.same(name, words, nested.clone());
+    }
+    c.same("full, and hidden", open(&mut nested.clone(), 2), hidden_by(1));
+    c.same("full, and visible", open(&mut nested.clone(), 4), no(7));
 }
 
 fn saved_examples(c: &mut Checks) {
@@ -234,9 +276,9 @@ fn saved_examples(c: &mut Checks) {
     c.same("saved fresh record", save(&fresh_record(1), &mut bytes), Ok(32));
     let numbers: Vec<u32> = bytes.chunks(4).map(|b| u32::from_be_bytes(b.try_into().unwrap())).collect();
     c.same("its numbers", numbers, vec![1, 1, 1, 0, NONE, 1, 0, 0, 0xeeee_eeee, 0xeeee_eeee]);
-    c.same("saved in 31 bytes", save(&fresh_record(1), &mut bytes[..31]), Err(9));
-    c.same("empty bytes", load(&mut [0; 7], &[]), Err(3));
-    c.same("six words and empty bytes", load(&mut [0; 6], &[]), Err(1));
+    c.same("saved in 31 bytes", save(&fresh_record(1), &mut bytes[..31]), no(9));
+    c.same("empty bytes", load(&mut [0; 7], &[]), no(3));
+    c.same("six words and empty bytes", load(&mut [0; 6], &[]), no(1));
 
     let x = record_x();
     let mut saved = vec![0; 12 + 16 * 4 + 4 * 6];
@@ -245,12 +287,12 @@ fn saved_examples(c: &mut Checks) {
     let mut again = vec![5; x.len()];
     c.same("X loaded", load(&mut again, &saved), Ok(6));
     c.same("X again", again, x);
-    c.same("X in five rows", load(&mut [0; 23], &saved), Err(7));
+    c.same("X in five rows", load(&mut [0; 23], &saved), no(7));
     for cut in 0..saved.len() {
-        c.same("cut short", load(&mut [0; 35], &saved[..cut]), Err(3));
+        c.same("cut short", load(&mut [0; 35], &saved[..cut]), no(3));
     }
     saved.push(0);
-    c.same("one byte more", load(&mut [0; 35], &saved), Err(3));
+    c.same("one byte more", load(&mut [0; 35], &saved), no(3));
 }
 
 /// One record for each clause, in which that clause alone fails.
@@ -290,8 +332,11 @@ fn script_examples(c: &mut Checks) {
         c.same(bad, script::parse(bad.as_bytes()), None);
     }
     let input = "open 0\nopen 1\nnav 2\nnav 1\ndrop 2\ngo -1\ndrop 2\ndrop 2\ndrop 0\ndrop 1\nopen 0\n";
-    let wanted = "ok 1 0/0\nok 2 0/0\nok 3 1/1\nok 4 2/2\nno 5 2/2\nok 1 1/2\nok 2 0/1\nno 4 0/1\nno 10 0/1\nok 2 0/0\nok 5 0/0\n";
+    let wanted = "ok 1 0/0\nok 2 0/0\nok 3 1/1\nok 4 2/2\nno 5 at 1 2/2\nok 1 1/2\nok 2 0/1\nno 4 0/1\nno 10 0/1\nok 2 0/0\nok 5 0/0\n";
     c.same("a script with drops", text(input), wanted.to_string());
+    let input = "open 0\nnav 0\nopen 2\nopen 1\nnav 0\ngo -1\nopen 3\nnav 2\ndrop 2\ndrop 0\nnav 9\n";
+    let wanted = "ok 1 0/0\nok 2 1/1\nok 3 1/1\nno 5 at 0 1/1\nno 5 at 0 1/1\nok 1 0/1\nno 5 at 2 0/1\nno 5 at 2 0/1\nno 5 at 2 0/1\nno 10 0/1\nno 4 0/1\n";
+    c.same("a script that asks of hidden documents", text(input), wanted.to_string());
     c.same("the largest number", script::parse(b"open 4294967295"), Some(script::Line::Open(NONE)));
     c.same("the largest frame number", script::parse(b"drop 4294967295"), Some(script::Line::Drop(NONE)));
     c.same("the least number", script::parse(b"go -2147483648"), Some(script::Line::Go(i32::MIN)));

@@ -65,6 +65,17 @@ impl History {
         }
     }
 
+    /// A document of the record and those above it: "itself first and then upwards".
+    pub fn upwards(&self, number: u32) -> Vec<&Document> {
+        let found = |number: u32| &self.documents[self.place(number).expect("a parent is the document of an earlier row")];
+        std::iter::successors(Some(found(number)), |d| d.parent.map(found)).collect()
+    }
+
+    /// "the nearest document, itself first and then upwards, that isn't shown"
+    pub fn hiding(&self, number: u32) -> Option<u32> {
+        self.upwards(number).into_iter().find(|d| !d.active).map(|d| d.number)
+    }
+
     /// Patch 2: "the joint session future is {e | ∃ d ∈ A : d ≲ e}", earliest first.
     pub fn joint_future(&self) -> Vec<usize> {
         (0..self.documents.len()).filter(|&e| self.in_joint_future(e)).collect()

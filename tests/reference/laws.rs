@@ -30,6 +30,7 @@ pub fn check_all() -> usize {
     for record in &reached {
         traversal(record);
         dropping(record);
+        hiding(record);
         round_trip(record);
         well_formed_is_s7(record);
     }
@@ -68,7 +69,8 @@ fn noted(note: &[u32]) {
     };
     for record in reached(note, MOVES_SINCE, allowed).iter().filter(|record| place(record) == place(note)) {
         for row in rows(note).iter().filter(|row| has(record, row.document)) {
-            assert_eq!(visible(record, row.document), visible(note, row.document), "visible as noted");
+            let seen = |words: &[u32]| visible(words, row.document).unwrap().visible();
+            assert_eq!(seen(record), seen(note), "visible as noted");
         }
     }
 }
@@ -115,8 +117,8 @@ fn successors(record: &[u32]) -> Vec<(Move, Vec<u32>)> {
 fn traversal(record: &[u32]) {
     let (here, steps, _) = position(record).unwrap();
     let (back, forward) = (-(here as i64), (steps - here) as i64);
-    assert_eq!(go(record, back - 1), Err(6));
-    assert_eq!(go(record, forward + 1), Err(6));
+    assert_eq!(go(record, back - 1), no(6));
+    assert_eq!(go(record, forward + 1), no(6));
     for delta in back..=forward {
         let once = go(record, delta).unwrap();
         assert_eq!(once, by_the_lists(record, delta), "one step at a time and by the list");
@@ -150,12 +152,13 @@ fn dropping(record: &[u32]) {
     for frame in 0..record[2] + 1 {
         let mut words = record.to_vec();
         let own: Vec<Row> = before.iter().filter(|row| row.frame == frame).copied().collect();
-        let visible = |document: u32| visible(record, document) == Ok(true);
         let wanted = match own[..] {
-            [] => Err(4),
-            [row, ..] if row.parent == NONE => Err(10),
-            [row, ..] if !visible(row.parent) => Err(5),
-            _ => Ok(own.iter().fold(before.clone(), |left, row| deleted(&left, row.document))),
+            [] => no(4),
+            [row, ..] if row.parent == NONE => no(10),
+            [row, ..] => match visible(record, row.parent).unwrap().hiding {
+                Some(hiding) => hidden_by(hiding),
+                None => Ok(own.iter().fold(before.clone(), |left, row| deleted(&left, row.document))),
+            },
         };
         let removed = drop_frame(&mut words, frame);
         assert_eq!(removed, wanted.as_ref().map(|left| (before.len() - left.len()) as u32).map_err(|&refusal| refusal));
@@ -176,6 +179,22 @@ fn deleted(rows: &[Row], d: u32) -> Vec<Row> {
 /// d →* e: they are the same, or d →* the parent of e.
 fn leads_to(rows: &[Row], d: u32, e: u32) -> bool {
     d == e || rows.iter().any(|row| row.document == e && row.parent != NONE && leads_to(rows, d, row.parent))
+}
+
+/// Who hides a document: it is not shown, the document lies beneath it or is it, and every other such one lies above it. There is one exactly
+/// where the document is not fully active, and refusal 5 carries it.
+fn hiding(record: &[u32]) {
+    let all = rows(record);
+    let active = History::of(&all).fully_active();
+    for d in all.iter().map(|row| row.document) {
+        let not_shown: Vec<u32> = all.iter().filter(|row| row.shown == 0 && leads_to(&all, row.document, d)).map(|row| row.document).collect();
+        let nearest = not_shown.iter().copied().find(|&h| not_shown.iter().all(|&e| leads_to(&all, e, h)));
+        assert_eq!(nearest.is_none(), active.contains(&d), "hidden exactly where not fully active");
+        assert_eq!(visible(record, d), Ok(Sight { hiding: nearest }), "the nearest that isn't shown");
+        let carried = |refusal: Option<Refusal>| refusal.filter(|refusal| refusal.number == 5).and_then(|refusal| refusal.hiding);
+        assert_eq!(carried(open(&mut record.to_vec(), d).err()), nearest, "refusal 5 carries it");
+        assert_eq!(carried(navigate(&mut record.to_vec(), d).err()), nearest, "refusal 5 carries it");
+    }
 }
 
 fn round_trip(record: &[u32]) {

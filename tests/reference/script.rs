@@ -1,5 +1,5 @@
 //! The script program: lines in, one answer line each.
-use crate::calls::{drop_frame, fresh, navigate, open, position, traverse};
+use crate::calls::{drop_frame, fresh, navigate, open, position, traverse, Refusal};
 use crate::record::MOST_ROWS;
 
 #[derive(Clone, Copy, Debug, PartialEq, Eq)]
@@ -35,7 +35,9 @@ impl Window {
         let (position, steps, _) = position(&self.words).expect("the record stays sound");
         match outcome {
             Ok(number) => format!("ok {number} {position}/{steps}"),
-            Err(refusal) => format!("no {refusal} {position}/{steps}"),
+            // "the script prints `no 5 at D` before the position"
+            Err(Refusal { number, hiding: Some(document) }) => format!("no {number} at {document} {position}/{steps}"),
+            Err(Refusal { number, hiding: None }) => format!("no {number} {position}/{steps}"),
         }
     }
 }

@@ -1,5 +1,7 @@
 //! One call with everything it is lent: as the driver is asked for it, and as the reference answers it.
-use reference::calls;
+use reference::calls::{self, Answer};
+use reference::history::History;
+use reference::record::{rows, NONE};
 use std::io::{self, Read};
 
 #[derive(Clone, Copy, PartialEq, Eq, PartialOrd, Ord, Debug)]
@@ -23,6 +25,17 @@ pub const CALLS: [Call; 12] = [
     Call::Fresh, Call::Open, Call::Navigate, Call::Traverse, Call::Drop, Call::Position, Call::Visible, Call::Lists, Call::Stretch, Call::Outline,
     Call::Save, Call::Load,
 ];
+
+impl Call {
+    /// Which out word refusal 5 writes: the last one of the calls that have that refusal.
+    fn hiding_word(self) -> Option<usize> {
+        match self {
+            Call::Open => Some(2),
+            Call::Navigate | Call::Drop => Some(1),
+            _ => None,
+        }
+    }
+}
 
 /// `first` and `second` are change rows, the two lists, or pairs; `number` is a document, a frame or δ.
 #[derive(Clone)]
@@ -78,12 +91,29 @@ impl Request {
         };
         match self.answer(&mut reply) {
             Ok(answers) => reply.outs[..answers.len()].copy_from_slice(&answers),
-            Err(refusal) => reply.refusal = refusal,
+            Err(refusal) => {
+                reply.refusal = refusal.number;
+                if let Some(document) = refusal.hiding {
+                    reply.outs[self.call.hiding_word().expect("a call that has refusal 5")] = document;
+                }
+            }
         }
         reply
     }
 
-    fn answer(&self, lent: &mut Reply) -> Result<Vec<u32>, u32> {
+    /// How far up those stand that are not shown, the nearest first, from the document that is asked for or has to be visible: 0 for itself.
+    /// The record is sound, and the document there.
+    pub fn not_shown(&self) -> Vec<usize> {
+        let rows = rows(&self.words);
+        let document = match self.call {
+            Call::Drop => rows.iter().find(|row| row.frame == self.number).expect("a frame of the record").parent,
+            _ => self.number,
+        };
+        History::of(&rows).upwards(document).iter().enumerate().filter(|(_, d)| !d.active).map(|(links, _)| links).collect()
+    }
+
+    /// The values of an accepted call, out word by out word.
+    fn answer(&self, lent: &mut Reply) -> Answer<Vec<u32>> {
         let Reply { words, first, second, bytes, .. } = lent;
         Ok(match self.call {
             Call::Fresh => calls::fresh(words).map(|()| vec![])?,
@@ -92,7 +122,7 @@ impl Request {
             Call::Traverse => vec![calls::traverse(words, self.number as i32, first)?],
             Call::Drop => vec![calls::drop_frame(words, self.number)?],
             Call::Position => calls::position(words).map(|(position, steps, length)| vec![position, steps, length])?,
-            Call::Visible => vec![calls::visible(words, self.number)? as u32],
+            Call::Visible => calls::visible(words, self.number).map(|sight| vec![sight.visible() as u32, sight.hiding.unwrap_or(NONE)])?,
             Call::Lists => calls::lists(words, first, second).map(|(taken, upcoming)| vec![taken, upcoming])?,
             Call::Stretch => vec![calls::stretch(first, second, self.number as i32)?.len() as u32],
             Call::Outline => vec![calls::outline(words, first)?],

@@ -26,11 +26,26 @@ pub fn allowed(call: Call, refusal: u32) -> bool {
     }
 }
 
+/// Who hides a document, with or without another above that is not shown either.
+const HIDERS: [&str; 4] = ["itself", "itself before another", "one above", "one above before another"];
+
+/// The one of HIDERS that a request has, by how far up those stand that are not shown; none where the document is visible.
+fn hider(not_shown: &[usize]) -> Option<&'static str> {
+    let &nearest = not_shown.first()?;
+    Some(HIDERS[2 * (nearest > 0) as usize + (not_shown.len() > 1) as usize])
+}
+
+/// Whether a document that hides is among what this call may answer.
+fn tells_hider(call: Call) -> bool {
+    call == Call::Visible || allowed(call, 5)
+}
+
 #[derive(Default)]
 pub struct Seen {
     pairs: BTreeMap<(Call, u32), u64>,
     structs: BTreeMap<u32, u64>,
     clauses: BTreeMap<u8, u64>,
+    hiders: BTreeMap<(Call, &'static str), u64>,
     differing: BTreeMap<Call, u64>,
 }
 
@@ -47,6 +62,11 @@ impl Seen {
                 *self.clauses.entry(clause).or_default() += 1;
             }
         }
+        if refusal == 5 || (call == Call::Visible && refusal == 0) {
+            if let Some(hider) = hider(&request.not_shown()) {
+                *self.hiders.entry((call, hider)).or_default() += 1;
+            }
+        }
     }
 
     pub fn note_difference(&mut self, call: Call) {
@@ -61,16 +81,20 @@ impl Seen {
         self.pairs.len()
     }
 
-    /// The pairs of the table, those of Traverse with change rows as structs, and the clauses of soundness (each failing alone) that did not occur.
+    /// The pairs of the table, those of Traverse with change rows as structs, the clauses of soundness (each failing alone), and the ways to be hidden
+    /// that did not occur.
     pub fn missing(&self) -> Vec<String> {
         let pairs = CALLS.iter().flat_map(|&call| NUMBERS.map(move |refusal| (call, refusal)));
         let pairs = pairs.filter(|&(call, refusal)| allowed(call, refusal) && !self.pairs.contains_key(&(call, refusal)));
         let structs = NUMBERS.filter(|&refusal| allowed(Call::Traverse, refusal) && !self.structs.contains_key(&refusal));
         let clauses = (1..=8).filter(|clause| !self.clauses.contains_key(clause));
+        let hiders = CALLS.iter().filter(|&&call| tells_hider(call)).flat_map(|&call| HIDERS.map(|hider| (call, hider)));
+        let hiders = hiders.filter(|pair| !self.hiders.contains_key(pair));
         pairs
             .map(|(call, refusal)| format!("{call:?} giving {refusal}"))
             .chain(structs.map(|refusal| format!("Traverse with structs giving {refusal}")))
             .chain(clauses.map(|clause| format!("S{clause} failing alone")))
+            .chain(hiders.map(|(call, hider)| format!("{call:?} of a document that is hidden by {hider}")))
             .collect()
     }
 
@@ -84,5 +108,9 @@ impl Seen {
         println!("  {:10} {}", "structs", structs.collect::<Vec<_>>().join("  "));
         let clauses = self.clauses.iter().map(|(clause, count)| format!("S{clause}: {count}"));
         println!("  {:10} {}", "alone", clauses.collect::<Vec<_>>().join("  "));
+        for call in CALLS.into_iter().filter(|&call| tells_hider(call)) {
+            let counts = HIDERS.iter().filter_map(|&hider| self.hiders.get(&(call, hider)).map(|count| format!("{hider}: {count}")));
+            println!("  {:10} hidden by {}", format!("{call:?}"), counts.collect::<Vec<_>>().join("  "));
+        }
     }
 }

@@ -10,8 +10,8 @@ use lib.Signed.{ltZ}
 use borrow.Author.Tests.{lt-ltb, le-ltb}
 use Rattle.base.proofs.Signed.{by-sign, by-plus}
 use Rattle.base.specs.declared.Refusal.{Refusal}
-use Rattle.base.specs.Numbers.{numberOf}
-use Rattle.rules.specs.Steps.{position, steps}
+use Rattle.base.specs.Numbers.{numberOf, carriedBy}
+use Rattle.rules.specs.Steps.{position, steps, visible}
 use Rattle.rules.specs.Words.{put, rowsOf}
 use Rattle.rules.specs.Asks.{takenList, upcomingList, ownList, stretched}
 use Rattle.rules.specs.Calls.{Call, Answer, refusals, accepted, ladder, outcome}
@@ -32,14 +32,14 @@ use Rattle.sound.specs.declared.Survey.{Survey}
 use Rattle.sound.specs.declared.Survey.the-variants.{Stands, No as Survey·No}
 use Rattle.sound.proofs.Checks.{check-given, survey-given, survey-stands, examined-sound, examined-fits}
 
-pub visible-refused : (words : List ℕ) (d : ℕ) (k : Check) (r : Refusal) → k ≡ checkOf words → k ≡ No r → outcome (Call.Visible words d) ≡ record { answer = Answer.refuses (numberOf r); lent = [] }
+pub visible-refused : (words : List ℕ) (d : ℕ) (k : Check) (r : Refusal) → k ≡ checkOf words → k ≡ No r → outcome (Call.Visible words d) ≡ record { answer = Answer.refuses (numberOf r) (carriedBy r); lent = [] }
 unfolding refusals
-visible-refused words d k r e f = outcome-refused (Call.Visible words d) (numberOf r) (check-given words _ k r e f)
+visible-refused words d k r e f = outcome-refused (Call.Visible words d) (numberOf r) (carriedBy r) (check-given words _ k r e f)
 
 module _ (words : List ℕ) (k : Survey) (e : k ≡ surveyOf words) where
-  pub position-refused : (r : Refusal) → k ≡ Survey·No r → outcome (Call.Position words) ≡ record { answer = Answer.refuses (numberOf r); lent = [] }
+  pub position-refused : (r : Refusal) → k ≡ Survey·No r → outcome (Call.Position words) ≡ record { answer = Answer.refuses (numberOf r) (carriedBy r); lent = [] }
   unfolding refusals
-  position-refused r f = outcome-refused (Call.Position words) (numberOf r) (survey-given words _ k r e f)
+  position-refused r f = outcome-refused (Call.Position words) (numberOf r) (carriedBy r) (survey-given words _ k r e f)
 
   -- One more than the steps is no large number.
   pub length-fits : (s : Stand) → k ≡ Stands s → s .steps < 513
@@ -53,9 +53,9 @@ module _ (words : List ℕ) (k : Survey) (e : k ≡ surveyOf words) where
 
 module _ (words : List ℕ) (e : Examined words) where
   by-sight : (d : ℕ) (s : Sight) → SightIs (rowsOf words) d s → outcome (Call.Visible words d) ≡ record { answer = sightIs s; lent = [] }
-  unfolding outcome refusals accepted ladder
+  unfolding outcome refusals accepted ladder visible
   by-sight d Visible i = rw (e .long, e .passes, i .0, i .1) refl
-  by-sight d Hidden i = rw (e .long, e .passes, i .0, i .1) refl
+  by-sight d (Hidden h) i = rw (e .long, e .passes, i .0, i .1) refl
   by-sight d (Refused r) i = rw (e .long, e .passes, i .0, i .1) refl
 
   pub visible-given : (d : ℕ) (s : Sight) → s ≡ sightOf (readableRows words) d → outcome (Call.Visible words d) ≡ record { answer = sightIs s; lent = [] }
@@ -83,16 +83,16 @@ module _ (takens upcomings : List ℕ) (δ : ℤ) where
     unfolding outcome refusals accepted ladder
     stretch-given l = rw (le-ltb (length (ownList takens upcomings δ)) (natAbs δ) (rw (own, far) at l), far) refl
 
-    pub stretch-refused : length list < n → outcome (Call.StretchCount takens upcomings δ) ≡ record { answer = Answer.refuses 6; lent = [] }
+    pub stretch-refused : length list < n → outcome (Call.StretchCount takens upcomings δ) ≡ record { answer = Answer.refuses 6 []; lent = [] }
     unfolding outcome refusals accepted ladder
     stretch-refused l = rw (lt-ltb (length (ownList takens upcomings δ)) (natAbs δ) (rw (own, far) at l)) refl
 
 -- LISTS
 
 pub lists-refused : (words takens upcomings : List ℕ) (k : Survey) (r : Refusal) → k ≡ surveyOf words → k ≡ Survey·No r →
-    outcome (Call.Lists words takens upcomings) ≡ record { answer = Answer.refuses (numberOf r); lent = takens ∷ upcomings ∷ [] }
+    outcome (Call.Lists words takens upcomings) ≡ record { answer = Answer.refuses (numberOf r) (carriedBy r); lent = takens ∷ upcomings ∷ [] }
 unfolding refusals
-lists-refused words takens upcomings k r e f = outcome-refused (Call.Lists words takens upcomings) (numberOf r) (survey-given words _ k r e f)
+lists-refused words takens upcomings k r e f = outcome-refused (Call.Lists words takens upcomings) (numberOf r) (carriedBy r) (survey-given words _ k r e f)
 
 module _ (words : List ℕ) (e : Examined words) (takens upcomings : List ℕ) (p s : ℕ) (here : p ≡ position (rowsOf words)) (all : s ≡ steps (rowsOf words)) where
   taken-count : length (takenList (rowsOf words)) ≡ p
@@ -101,11 +101,11 @@ module _ (words : List ℕ) (e : Examined words) (takens upcomings : List ℕ) (
   upcoming-count : length (upcomingList (rowsOf words)) ≡ s - p
   upcoming-count = let h = examined-sound words e .table in upcoming-length (rowsOf words) (h .s6) (h .s7) ∙ ap₂ _-_ (sym all) (sym here)
 
-  pub lists-short-first : length takens < p → outcome (Call.Lists words takens upcomings) ≡ record { answer = Answer.refuses 9; lent = takens ∷ upcomings ∷ [] }
+  pub lists-short-first : length takens < p → outcome (Call.Lists words takens upcomings) ≡ record { answer = Answer.refuses 9 []; lent = takens ∷ upcomings ∷ [] }
   unfolding outcome refusals accepted ladder
   lists-short-first l = rw (e .long, e .passes, taken-count, lt-ltb _ _ l) refl
 
-  pub lists-short-second : p ≤ length takens → length upcomings < s - p → outcome (Call.Lists words takens upcomings) ≡ record { answer = Answer.refuses 9; lent = takens ∷ upcomings ∷ [] }
+  pub lists-short-second : p ≤ length takens → length upcomings < s - p → outcome (Call.Lists words takens upcomings) ≡ record { answer = Answer.refuses 9 []; lent = takens ∷ upcomings ∷ [] }
   unfolding outcome refusals accepted ladder
   lists-short-second m l = rw (e .long, e .passes, taken-count, upcoming-count, le-ltb _ _ m, lt-ltb _ _ l) refl
 

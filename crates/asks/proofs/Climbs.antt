@@ -6,24 +6,23 @@ use mathlib.Core.Path.{_≡_, refl, sym, ap, subst, _∙_}
 use native.Mathlib.Omega.{arith}
 use lib.Dec.{eqb}
 use lib.ListN.{length, List·getD-eq-default}
-use borrow.Author.Tests.{eq-eqb, ne-eqb, eqb-true}
+use borrow.Author.Tests.{eq-eqb, ne-eqb, eqb-true, lt-ltb, le-ltb}
 use Rattle.base.specs.declared.RowPlace.{RowPlace}
 use Rattle.base.specs.declared.Refusal.the-variants.{Absent}
-use Rattle.rules.specs.Rows.{Row, noRow, none, parentAt, isShown, isDoc, inRecord, climb}
-use Rattle.rules.specs.Steps.{visibleAsk, visibleAt, visible}
+use Rattle.rules.specs.Rows.{Row, noRow, none, rowAt, docAt, parentAt, isShown, isDoc, inRecord, climb}
+use Rattle.rules.specs.Steps.{Hider, isNobody, hiderAsk, lost, hiderAt, hiderOf, visibleAt}
 use Rattle.rules.specs.Words.{capacity, rowsOf}
 use Rattle.laws.proofs.Tests.{test, clash, some-in, some-out, greatest, latest-is}
 use Rattle.laws.proofs.Climb.{climb-none, climb-found}
 use Rattle.reads.specs.Found.{foundBelow}
 use Rattle.reads.specs.declared.Found.{Found}
 use Rattle.reads.specs.declared.Found.the-variants.{At, Nothing}
-use Rattle.reads.specs.Within.{Within}
 use Rattle.reads.proofs.Scans.{found-at, found-lower, found-nothing}
 use Rattle.rows.specs.Readable.{readableRows}
 use Rattle.rows.proofs.Readable.{readable-rows, readable-within}
-use Rattle.asks.specs.Answers.{sightOf, SightIs}
+use Rattle.asks.specs.Answers.{hiderBy, Coded, sightBy, sightOf, SightIs}
 use Rattle.asks.specs.declared.Sight.{Sight}
-use Rattle.asks.specs.declared.Sight.the-variants.{Visible, Hidden, Refused}
+use Rattle.asks.specs.declared.Sight.the-variants.{Refused}
 
 -- Where the scan for a document ended, the question goes on.
 module _ {A : Type 0} (lost : A) (ask : (ℕ → A) → ℕ → A) (rows : List Row) (k d : ℕ) where
@@ -39,33 +38,62 @@ module _ {A : Type 0} (lost : A) (ask : (ℕ → A) → ℕ → A) (rows : List 
   climb-lost e = climb-none lost ask rows k d (λ j l h. clash (some-in (isDoc rows d) k l (eq-eqb _ _ h)) (found-nothing (isDoc rows d) k e))
 
 module _ (rows : List Row) (k : ℕ) (s : Bool) (shown : s ≡ isShown rows k) where
-  pub hidden-ends : s ≡ false → false ≡ visibleAt rows k
-  unfolding visibleAt
+  pub hidden-ends : s ≡ false → hiderAt rows k ≡ Hider.document (docAt rows k)
+  unfolding hiderAt
   hidden-ends f = rw (sym shown ∙ f) refl
 
   module _ (up : ℕ) (t : s ≡ true) (named : up ≡ parentAt rows k) where
-    pub root-ends : up ≡ none → true ≡ visibleAt rows k
-    unfolding visibleAt
+    pub root-ends : up ≡ none → hiderAt rows k ≡ Hider.nobody
+    unfolding hiderAt
     root-ends e = rw (sym shown ∙ t, eq-eqb (parentAt rows k) none (sym named ∙ e)) refl
 
-    goes-up : (up ≡ none → ⊥) → climb false (visibleAsk rows) rows k up ≡ visibleAt rows k
-    unfolding visibleAt
-    goes-up ne = ap (climb false (visibleAsk rows) rows k) named ∙ rw (sym shown ∙ t, ne-eqb (parentAt rows k) none (λ z. ne (named ∙ z))) refl
+    module _ (f : Found) (ne : up ≡ none → ⊥) (scan : f ≡ foundBelow (isDoc rows up) k) where
+      goes-up : hiderAt rows k ≡ climb lost (hiderAsk rows) rows k up
+      unfolding hiderAt
+      goes-up = rw (sym shown ∙ t, ne-eqb (parentAt rows k) none (λ z. ne (named ∙ z))) (ap (climb lost (hiderAsk rows) rows k) (sym named))
 
-    pub climb-goes : (f : Found) (q : RowPlace) (r : Bool) → (up ≡ none → ⊥) → f ≡ foundBelow (isDoc rows up) k → f ≡ At q → r ≡ visibleAt rows (q .0) → r ≡ visibleAt rows k
-    unfolding visibleAt
-    climb-goes f q r ne e g h = h ∙ sym (climb-at false (visibleAsk rows) rows k up q (sym e ∙ g)) ∙ goes-up ne
+      pub climb-goes : (q : RowPlace) → f ≡ At q → hiderAt rows k ≡ hiderAt rows (q .0)
+      unfolding hiderAt
+      climb-goes q g = goes-up ∙ climb-at lost (hiderAsk rows) rows k up q (sym scan ∙ g)
 
-    pub lost-ends : (f : Found) → (up ≡ none → ⊥) → f ≡ foundBelow (isDoc rows up) k → f ≡ Nothing → false ≡ visibleAt rows k
-    lost-ends f ne e g = sym (climb-lost false (visibleAsk rows) rows k up (sym e ∙ g)) ∙ goes-up ne
+      pub lost-ends : f ≡ Nothing → hiderAt rows k ≡ lost
+      lost-ends g = goes-up ∙ climb-lost lost (hiderAsk rows) rows k up (sym scan ∙ g)
+
+-- A number that means a document, that means nobody, and who is meant.
+pub coded-document : (h : Hider) (d code : ℕ) → h ≡ Hider.document d → code ≡ d → code < 4294967296 → Coded h code
+coded-document h d code e g l = rw e (g, l)
+
+pub coded-nobody : (h : Hider) → h ≡ Hider.nobody → Coded h 4294967296
+coded-nobody h e = rw e refl
+
+pub coded-same : (h g : Hider) (code : ℕ) → h ≡ g → Coded g code → Coded h code
+coded-same h g code e c = subst (λ x. Coded x code) (sym e) c
+
+coded-is : (h : Hider) (code : ℕ) → Coded h code → hiderBy code ≡ h
+coded-is Hider.nobody code c = rw (c) refl
+coded-is (Hider.document d) code c = rw (lt-ltb code 4294967296 (c .1)) (ap Hider.document (c .0))
+
+pub means-document : (code : ℕ) → code < 4294967296 → Hider.document code ≡ hiderBy code
+means-document code l = rw (lt-ltb code 4294967296 l) refl
+
+pub means-nobody : (code : ℕ) → 4294967296 ≤ code → Hider.nobody ≡ hiderBy code
+means-nobody code l = rw (le-ltb code 4294967296 l) refl
 
 -- Past the rows that can be read, and among them.
 module _ (words : List ℕ) (n i : ℕ) (count : n ≡ length (readableRows words)) where
-  pub climb-past : n ≤ i → false ≡ visibleAt (readableRows words) i
-  climb-past l = hidden-ends (readableRows words) i false (sym (ap (λ r. eqb (r .shown) 1) (List·getD-eq-default (readableRows words) noRow (omega arith)))) refl
+  pub hiding-past : n ≤ i → Hider.document 0 ≡ hiderAt (readableRows words) i
+  hiding-past l =
+      let nothing : rowAt (readableRows words) i ≡ noRow = List·getD-eq-default (readableRows words) noRow (omega arith) in
+      ap (λ (r : Row). Hider.document (r .doc)) (sym nothing) ∙ sym (hidden-ends (readableRows words) i false (sym (ap (λ r. eqb (r .shown) 1) nothing)) refl)
 
-  pub climb-within : (r : Bool) → i < n → r ≡ visibleAt (rowsOf words) i → r ≡ visibleAt (readableRows words) i
-  climb-within r l e = e ∙ ap (λ rows. visibleAt rows i) (sym (readable-rows words (readable-within words i (omega arith) .fits)))
+  pub hiding-within : (code : ℕ) (h : Hider) → i < n → Coded (hiderAt (rowsOf words) i) code → h ≡ hiderBy code → h ≡ hiderAt (readableRows words) i
+  hiding-within code h l c e =
+      e ∙ coded-is (hiderAt (rowsOf words) i) code c ∙ ap (λ rows. hiderAt rows i) (sym (readable-rows words (readable-within words i (omega arith) .fits)))
+
+-- By who hides it.
+pub climb-by : (rows : List Row) (i : ℕ) (h : Hider) → h ≡ hiderAt rows i → isNobody h ≡ visibleAt rows i
+unfolding visibleAt
+climb-by rows i h e = ap isNobody e
 
 -- A document, where the scan for it ended.
 module _ (words : List ℕ) (d : ℕ) (f : Found) (scan : f ≡ foundBelow (isDoc (readableRows words) d) (length (readableRows words))) where
@@ -74,26 +102,17 @@ module _ (words : List ℕ) (d : ℕ) (f : Found) (scan : f ≡ foundBelow (isDo
   seen-absent e = rw (found-nothing (isDoc (readableRows words) d) (length (readableRows words)) (sym scan ∙ e)) refl
 
   module _ (q : RowPlace) (e : f ≡ At q) where
-    pub found-within : Within words (q .0)
-    found-within = readable-within words (q .0) (found-lower (isDoc (readableRows words) d) (length (readableRows words)) q (sym scan ∙ e))
-
     here : inRecord (readableRows words) d ≡ true
     unfolding inRecord
     here = found-at (isDoc (readableRows words) d) (length (readableRows words)) q (sym scan ∙ e) .0
 
-    there : visible (readableRows words) d ≡ visibleAt (rowsOf words) (q .0)
-    unfolding visible visibleAt
-    there =
-        climb-at false (visibleAsk (readableRows words)) (readableRows words) (length (readableRows words)) d q (sym scan ∙ e)
-        ∙ ap (λ rows. visibleAt rows (q .0)) (readable-rows words (found-within .fits))
+    there : hiderOf (readableRows words) d ≡ hiderAt (readableRows words) (q .0)
+    unfolding hiderOf hiderAt
+    there = climb-at lost (hiderAsk (readableRows words)) (readableRows words) (length (readableRows words)) d q (sym scan ∙ e)
 
-    pub seen-visible : (b : Bool) → b ≡ visibleAt (rowsOf words) (q .0) → b ≡ true → Visible ≡ sightOf (readableRows words) d
+    pub seen-by : (h : Hider) → h ≡ hiderAt (readableRows words) (q .0) → sightBy h ≡ sightOf (readableRows words) d
     unfolding sightOf
-    seen-visible b h t = rw (here, there ∙ sym h ∙ t) refl
-
-    pub seen-hidden : (b : Bool) → b ≡ visibleAt (rowsOf words) (q .0) → b ≡ false → Hidden ≡ sightOf (readableRows words) d
-    unfolding sightOf
-    seen-hidden b h t = rw (here, there ∙ sym h ∙ t) refl
+    seen-by h g = rw (here, there ∙ sym g) refl
 
 -- What is seen of a record that has room for its rows.
 pub seen-is : (words : List ℕ) (d : ℕ) → length (rowsOf words) ≤ capacity words → (s : Sight) → s ≡ sightOf (readableRows words) d → SightIs (rowsOf words) d s
@@ -101,6 +120,8 @@ unfolding sightOf
 seen-is words d l s e =
     let rows = rowsOf words in
     subst (SightIs rows d) (sym (e ∙ ap (λ rows. sightOf rows d) (readable-rows words l)))
-    (test (inRecord rows d)
-    (λ h. test (visible rows d) (λ t. rw (h, t) (h, t)) (λ t. rw (h, t) (h, t)))
-    (λ h. rw h (h, refl)))
+    (test (inRecord rows d) (λ h. rw h (by (hiderOf rows d) refl h)) (λ h. rw h (h, refl)))
+  where
+    by : (h : Hider) → hiderOf (rowsOf words) d ≡ h → inRecord (rowsOf words) d ≡ true → SightIs (rowsOf words) d (sightBy h)
+    by Hider.nobody e t = (t, e)
+    by (Hider.document h) e t = (t, e)

@@ -3,11 +3,13 @@ use Prim.Native.Nat.{ℕ}
 use mathlib.Core.List.{List, _∷_}
 use mathlib.Core.Logic.{inl}
 use mathlib.Core.Path.{_≡_, refl, sym, ap, subst}
+use Rattle.base.specs.declared.DocNo.{DocNo}
 use Rattle.base.specs.declared.Refusal.{Refusal}
 use Rattle.base.specs.declared.Refusal.the-variants.{Hidden}
-use Rattle.base.specs.Numbers.{numberOf}
+use Rattle.base.specs.Numbers.{numberOf, carriedBy}
 use Rattle.rules.specs.Words.{rowsOf}
-use Rattle.rules.specs.Calls.{Rung, _when_, short, unsound, absent, hidden, Given}
+use Rattle.rules.specs.Steps.{visible}
+use Rattle.rules.specs.Calls.{Rung, _when_, _naming_, short, unsound, absent, hidden, hider, Given}
 use Rattle.rows.specs.Readable.{readableRows}
 use Rattle.sound.specs.Check.{Examined, Settles}
 use Rattle.sound.specs.declared.Check.{Check}
@@ -20,7 +22,7 @@ use Rattle.asks.proofs.Climbs.{seen-is}
 
 module _ (words : List ℕ) (e : Examined words) (d : ℕ) (rest : List Rung) (s : Sight) (is : s ≡ sightOf (readableRows words) d) where
   abbrev lower : List Rung
-  lower = 5 when hidden words d ∷ rest
+  lower = 5 when hidden words d naming hider words d ∷ rest
 
   abbrev middle : List Rung
   middle = 4 when absent words d ∷ lower
@@ -33,12 +35,17 @@ module _ (words : List ℕ) (e : Examined words) (d : ℕ) (rest : List Rung) (s
 
   pub not-there : (r : Refusal) → s ≡ Sights.Refused r → Settles table (No r)
   unfolding Given
-  not-there r f = let t = tells (Sights.Refused r) f in examined-past words e middle (No r) (inl (rw (t .0) refl, sym (ap numberOf (t .1))))
+  not-there r f = let t = tells (Sights.Refused r) f in examined-past words e middle (No r) (inl (rw (t .0) refl, sym (ap numberOf (t .1)), sym (ap carriedBy (t .1))))
 
-  pub not-shown : s ≡ Sights.Hidden → Settles table (No Hidden)
-  unfolding Given
-  not-shown f = let t = tells Sights.Hidden f in examined-past words e middle (No Hidden) (settles-past (4 when absent words d) lower (rw (t .0) refl) (No Hidden) (inl (rw (t .1) refl, refl)))
+  pub not-shown : (h : DocNo) → s ≡ Sights.Hidden h → Settles table (No (Hidden h))
+  unfolding Given visible
+  not-shown h f =
+      let t = tells (Sights.Hidden h) f in
+      examined-past words e middle (No (Hidden h)) (settles-past (4 when absent words d) lower (rw (t .0) refl) (No (Hidden h)) (inl (rw (t .1) refl, refl, rw (t .1) refl)))
 
   -- A visible document leaves it to the rest of the table.
   pub shown-there : s ≡ Sights.Visible → (k : Check) → Settles rest k → Settles table k
-  shown-there f k h = let t = tells Sights.Visible f in examined-past words e middle k (settles-past (4 when absent words d) lower (rw (t .0) refl) k (settles-past (5 when hidden words d) rest (rw (t .1) refl) k h))
+  unfolding visible
+  shown-there f k h =
+      let t = tells Sights.Visible f in
+      examined-past words e middle k (settles-past (4 when absent words d) lower (rw (t .0) refl) k (settles-past (5 when hidden words d naming hider words d) rest (rw (t .1) refl) k h))

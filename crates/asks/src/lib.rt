@@ -12,14 +12,14 @@ ghost use mathlib.Core.Path.{_≡_};
 ghost use mathlib.Core.List.{[], _∷_};
 ghost use lib.ListN.{length};
 ghost use Prim.Native.Nat.{_-_, _≤_, _<_, max};
-ghost use Rattle.rules.specs.Steps.{visibleAt};
+ghost use Rattle.rules.specs.Steps.{hiderAt, visibleAt};
 ghost use Rattle.rules.specs.Words.{rowsOf};
 ghost use Rattle.rules.specs.Asks.{ownList, stretched};
 ghost use Rattle.rules.specs.Calls.{Call, outcome};
 ghost use Rattle.reads.specs.Within.{Within};
 ghost use Rattle.sound.specs.Survey.{Located};
 ghost use Rattle.rows.specs.Readable.{readableRows};
-ghost use Rattle.asks.specs.Answers.{standingIs, sightIs, sightOf, stretchIs, listedIs};
+ghost use Rattle.asks.specs.Answers.{standingIs, sightIs, sightOf, hiderIs, hiderBy, Coded, stretchIs, listedIs};
 ghost use Rattle.asks.specs.Listing.{takenWith, upcomingWith, Begun, TakensTo, TakensFrom, UpcomingsTo, UpcomingsFrom};
 
 // Where the window stands: position, steps, and the length for scripts.
@@ -38,60 +38,94 @@ pub fn position(words: &[u32]) -> Standing
     }
 }
 
-// Whether a document can be seen.
+// Whether a document can be seen, and if not, who hides it.
 pub enum Sight {
     Visible,
-    Hidden,
+    Hidden(DocNo),
     Refused(Refusal),
 }
 
-// Whether a row's document and every document above it are shown: once it is itself, the question goes to its parent.
-fn ascend(words: &&[u32], at: RowPlace) -> bool
-    requires { ⌜ Within (now (now words)) (at .0) ⌝ }
-    ensures { λ r. ⌜ r ≡ visibleAt (rowsOf (now (now (words .entry)))) (at .0) ⌝ }
+// Who hides a document: the nearest document, itself first and then upwards, that is not shown.
+pub enum Hider {
+    Nobody,
+    Document(DocNo),
+}
+
+// Nobody, as a number: the first that no document has.
+const NOBODY: u64 = 4294967296;
+
+// The number of a document, in a wider type.
+fn wide(d: DocNo) -> u64
+    ensures { λ r. ⌜ (r ≡ d .0) × (r < 4294967296) ⌝ }
 {
-    // The words come behind a second reference: a header that is copied at each call would keep the compiler from making a loop of it.
+    d.0 as u64
+}
+
+// Who hides a row's document: itself, if it is not shown; once it is, the question goes to its parent.
+fn ascend(words: &&[u32], at: RowPlace) -> u64
+    requires { ⌜ Within (now (now words)) (at .0) ⌝ }
+    ensures { λ r. ⌜ Coded (hiderAt (rowsOf (now (now (words .entry)))) (at .0)) r ⌝ }
+{
+    // The words come behind a second reference, and the answer is one number: a header that is copied at each call, or an answer that is handed back
+    // through memory, would keep the compiler from making a loop of it.
     let here = *words;
     if !reads::is_shown(here, at) {
-        return false;
+        return wide(reads::document(here, at));
     }
     let up = reads::parent(here, at);
     if up.0 == NONE {
-        return true;
+        return NOBODY;
     }
     match reads::find_below(here, at, up) {
         Found::At(above) => ascend(words, above),
-        Found::Nothing => false,
+        Found::Nothing => wide(DocNo(NONE)),
     }
 }
 
-// The same of any place: past the rows that the words hold there is nothing to see.
+// Who is meant by a number.
+fn told(code: u64) -> Hider
+    ensures { λ r. ⌜ hiderIs r ≡ hiderBy code ⌝ }
+{
+    if code < NOBODY {
+        return Hider::Document(DocNo(code as u32));
+    }
+    Hider::Nobody
+}
+
+// Who hides the document at any place: past the rows that the words hold there is nothing to see.
+pub fn hiding(words: &[u32], at: RowPlace) -> Hider
+    ensures { λ r. ⌜ hiderIs r ≡ hiderAt (readableRows (now (words .entry))) (at .0) ⌝ }
+{
+    if rows::readable_count(words) <= at.0 {
+        return Hider::Document(DocNo(0));
+    }
+    told(ascend(&words, at))
+}
+
+// Whether the document at any place is visible.
 pub fn climb(words: &[u32], at: RowPlace) -> bool
     ensures { λ r. ⌜ r ≡ visibleAt (readableRows (now (words .entry))) (at .0) ⌝ }
 {
-    if rows::readable_count(words) <= at.0 {
-        return false;
+    match hiding(words, at) {
+        Hider::Nobody => true,
+        Hider::Document(_) => false,
     }
-    ascend(&words, at)
 }
 
-// Whether a document is there, and whether it is visible.
+// Whether a document is there, whether it is visible, and who hides it.
 pub fn seen(words: &[u32], d: DocNo) -> Sight
     ensures { λ r. ⌜ r ≡ sightOf (readableRows (now (words .entry))) (d .0) ⌝ }
 {
     match rows::find(words, d) {
         Found::Nothing => Sight::Refused(Refusal::Absent),
-        Found::At(at) => {
-            if ascend(&words, at) {
-                Sight::Visible
-            } else {
-                Sight::Hidden
-            }
-        }
+        Found::At(at) => match hiding(words, at) {
+            Hider::Nobody => Sight::Visible,
+            Hider::Document(h) => Sight::Hidden(h),
+        },
     }
 }
 
-// Whether a document is visible.
+// Whether a document is visible, and if not, who hides it.
 pub fn visible(words: &[u32], d: DocNo) -> Sight
     ensures { λ r. ⌜ outcome (Call.Visible (now (words .entry)) (d .0)) ≡ record { answer = sightIs r; lent = [] } ⌝ }
 {

@@ -1,7 +1,7 @@
 // The numbers that are kept apart, the ways to say no, and the magnitude of a signed amount.
 ghost use mathlib.Core.Path.{_≡_};
 ghost use lib.IntN.{natAbs};
-ghost use Rattle.base.specs.Numbers.{numberOf};
+ghost use Rattle.base.specs.Numbers.{numberOf, carriedBy, carriedIs, Narrow};
 
 // The number of a document.
 #[repr(C)]
@@ -24,8 +24,8 @@ pub enum Refusal {
     NotSaved,
     // document not in the record; for removal, the frame
     Absent,
-    // document there, not visible; for removal, the one that holds the frame
-    Hidden,
+    // document there, not visible; for removal, the one that holds the frame: with who hides it
+    Hidden(DocNo),
     // position + delta below 0 or above steps; a list shorter than the magnitude of delta
     Beyond,
     // no row left
@@ -47,12 +47,28 @@ pub fn refusal_number(refusal: Refusal) -> u32
         Refusal::Unsound => 2,
         Refusal::NotSaved => 3,
         Refusal::Absent => 4,
-        Refusal::Hidden => 5,
+        Refusal::Hidden(_) => 5,
         Refusal::Beyond => 6,
         Refusal::Full => 7,
         Refusal::UsedUp => 8,
         Refusal::ShortBuffer => 9,
         Refusal::RootFrame => 10,
+    }
+}
+
+// What a refusal carries.
+pub enum Carried {
+    Nothing,
+    Document(DocNo),
+}
+
+// What a refusal carries: who hides the document, or nothing.
+pub fn refusal_carries(refusal: Refusal) -> Carried
+    ensures { λ r. ⌜ (carriedIs r ≡ carriedBy refusal) × Narrow (carriedBy refusal) ⌝ }
+{
+    match refusal {
+        Refusal::Hidden(d) => Carried::Document(d),
+        _ => Carried::Nothing,
     }
 }
 

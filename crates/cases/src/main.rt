@@ -1,6 +1,8 @@
-// Document 01's P1 to P12 and the cases of Drop, run: every call's answer, and of the record at the end its position, length and visible documents.
+// Document 01's P1 to P12, the cases of Drop and of who hides a document, run: every call's answer, and of the record at the end its position, length and
+// visible documents.
 use asks::Sight;
 use asks::Standing;
+use base::Carried;
 use base::DocNo;
 use base::FrameNo;
 use base::Refusal;
@@ -28,10 +30,17 @@ fn say_word(x: u32) {
     say_number(x as u64);
 }
 
-// Writes a refusal's number.
+// Writes a refusal's number, and the document that it carries.
 fn say_refused(r: Refusal) {
     say(b"refused ");
     say_number(base::refusal_number(r) as u64);
+    match base::refusal_carries(r) {
+        Carried::Document(d) => {
+            say(b" at ");
+            say_word(d.0);
+        }
+        Carried::Nothing => {}
+    }
     say(b"\n");
 }
 
@@ -126,6 +135,22 @@ fn go(words: &mut [u32], delta: i32) {
             say_change(&row);
         }
         Traversed::Refused(r) => say_refused(r),
+    }
+}
+
+// Visible, told.
+fn ask(words: &[u32], d: u32) {
+    say(b"  visible ");
+    say_word(d);
+    say(b": ");
+    match asks::visible(words, DocNo(d)) {
+        Sight::Visible => say(b"yes\n"),
+        Sight::Hidden(h) => {
+            say(b"hidden by ");
+            say_word(h.0);
+            say(b"\n");
+        }
+        Sight::Refused(r) => say_refused(r),
     }
 }
 
@@ -435,6 +460,57 @@ fn d10() {
     stand(&words);
 }
 
+// 1 and 3 of frame 1 lie in document 0, 2 in 1, 5 in 2. Of 0 and 4 the latter is shown, of 1 and 3 too: 2 and 5 are shown, and hidden by 1.
+fn record_nested() -> [u32; 27] {
+    [
+        6,
+        6,
+        4,
+        0,
+        0,
+        NONE,
+        0,
+        1,
+        1,
+        0,
+        0,
+        2,
+        2,
+        1,
+        1,
+        3,
+        1,
+        0,
+        1,
+        4,
+        0,
+        NONE,
+        1,
+        5,
+        3,
+        2,
+        1,
+    ]
+}
+
+// "the nearest document, itself first and then upwards, that isn't shown"; refusal 5 "carries that number too".
+fn nested() {
+    say(b"Nested\n");
+    let mut words = record_nested();
+    ask(&words, 0);
+    ask(&words, 1);
+    ask(&words, 2);
+    ask(&words, 3);
+    ask(&words, 4);
+    ask(&words, 5);
+    ask(&words, 6);
+    open(&mut words, 2);
+    navigate(&mut words, 3);
+    take_out(&mut words, 3);
+    take_out(&mut words, 1);
+    stand(&words);
+}
+
 // Record of 6 words, and of 7.
 fn small_records() {
     say(b"6 words\n");
@@ -464,5 +540,6 @@ fn main() {
     d6();
     d8_and_d9();
     d10();
+    nested();
     small_records();
 }

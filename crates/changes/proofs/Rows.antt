@@ -76,9 +76,9 @@ module _ (words words' : List ℕ) (δ : ℤ) (rows rows' : List ChangeRow) (a :
   asked = Call.Traverse words δ (plain rows)
 
   -- A refusal changes neither words nor rows.
-  pub rows-kept : (k : ℕ) → a ≡ Answer.refuses k → (words' ≡ words) × (rows' ≡ rows)
-  rows-kept k r =
-      let s : words' ∷ plain rows' ∷ [] ≡ words ∷ plain rows ∷ [] = ap (λ z. z .lent) (sym e) ∙ refused-keeps asked k (ap (λ z. z .answer) e ∙ r) in
+  pub rows-kept : (k : ℕ) (vs : List ℕ) → a ≡ Answer.refuses k vs → (words' ≡ words) × (rows' ≡ rows)
+  rows-kept k vs r =
+      let s : words' ∷ plain rows' ∷ [] ≡ words ∷ plain rows ∷ [] = ap (λ z. z .lent) (sym e) ∙ refused-keeps asked k vs (ap (λ z. z .answer) e ∙ r) in
       (ap (run 0) s, plain-same rows' rows (ap (run 1) s))
 
   -- The answer n counts the change rows; the first n rows are these, and further rows keep what they held.
@@ -86,8 +86,8 @@ module _ (words words' : List ℕ) (δ : ℤ) (rows rows' : List ChangeRow) (a :
   unfolding refusals NoneGiven accepted put
   rows-written n g =
       let t = tableOf words in
-      let h : NoneGiven (refusals asked) = by-ladder (refusals asked) (λ h. h) (λ k r.
-      let f : Answer.refuses k ≡ Answer.gives (n ∷ []) = ap (λ z. z .answer) (sym (outcome-refused asked k r) ∙ e) ∙ g in
+      let h : NoneGiven (refusals asked) = by-ladder (refusals asked) (λ h. h) (λ k vs r.
+      let f : Answer.refuses k vs ≡ Answer.gives (n ∷ []) = ap (λ z. z .answer) (sym (outcome-refused asked k vs r) ∙ e) ∙ g in
       absurd (let z : _≡_ {A = ℕ} 0 1 = cc in omega arith)) in
       let s = sym (outcome-accepted asked h) ∙ e in
       let l = ltb-false (length (plain rows)) (length (changes t δ)) (h .1 .1 .1 .0) in

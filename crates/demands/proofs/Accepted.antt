@@ -18,20 +18,20 @@ use Rattle.laws.proofs.Reflect.{sound-is}
 use Rattle.laws.proofs.Calls.{by-ladder, accepted-gives, outcome-accepted, outcome-refused}
 use Rattle.demands.specs.Record.{Accepted}
 
-by-answer : (a : Answer) → ((k : ℕ) → a ≡ Answer.refuses k → ⊥) → (values : List ℕ) × (a ≡ Answer.gives values)
-by-answer (Answer.refuses k) h = absurd (h k refl)
+by-answer : (a : Answer) → ((k : ℕ) (vs : List ℕ) → a ≡ Answer.refuses k vs → ⊥) → (values : List ℕ) × (a ≡ Answer.gives values)
+by-answer (Answer.refuses k vs) h = absurd (h k vs refl)
 by-answer (Answer.gives values) h = (values, refl)
 
 -- A call is accepted when no rung of its ladder holds.
 pub accepted-none : (c : Call) → Accepted c → NoneGiven (refusals c)
 accepted-none c a =
-    by-ladder (refusals c) (λ h. h) (λ k g. absurd (apart k (a .0) (ap (λ o. o .answer) (sym (outcome-refused c k g)) ∙ a .1)))
+    by-ladder (refusals c) (λ h. h) (λ k vs g. absurd (apart k vs (a .0) (ap (λ o. o .answer) (sym (outcome-refused c k vs g)) ∙ a .1)))
   where
-    apart : (k : ℕ) (values : List ℕ) → Answer.refuses k ≡ Answer.gives values → ⊥
-    apart k values e = let z : _≡_ {A = ℕ} 0 1 = cc in omega arith
+    apart : (k : ℕ) (vs values : List ℕ) → Answer.refuses k vs ≡ Answer.gives values → ⊥
+    apart k vs values e = let z : _≡_ {A = ℕ} 0 1 = cc in omega arith
 
 pub none-accepted : (c : Call) → NoneGiven (refusals c) → Accepted c
-none-accepted c h = by-answer (outcome c .answer) (λ k e. accepted-gives c k (ap (λ o. o .answer) (sym (outcome-accepted c h)) ∙ e))
+none-accepted c h = by-answer (outcome c .answer) (λ k vs e. accepted-gives c k vs (ap (λ o. o .answer) (sym (outcome-accepted c h)) ∙ e))
 
 -- What an accepted Traverse may rely on.
 pub record Goes (words : List ℕ) (δ : ℤ) (room : List ℕ) : Type 0 where
@@ -69,14 +69,14 @@ accepted-after words (Move.navigates d) h = ap (λ o. getD (o .lent) 0 []) (outc
 accepted-after words (Move.goes δ room) h = ap (λ o. getD (o .lent) 0 []) (outcome-accepted _ h)
 accepted-after words (Move.drops f) h = ap (λ o. getD (o .lent) 0 []) (outcome-accepted _ h)
 
-pub refused-after : (words : List ℕ) (m : Move) (k : ℕ) → Given k (refusals (on words m)) → after words m ≡ words
-refused-after words (Move.opens p) k g = ap (λ o. getD (o .lent) 0 []) (outcome-refused _ k g)
-refused-after words (Move.navigates d) k g = ap (λ o. getD (o .lent) 0 []) (outcome-refused _ k g)
-refused-after words (Move.goes δ room) k g = ap (λ o. getD (o .lent) 0 []) (outcome-refused _ k g)
-refused-after words (Move.drops f) k g = ap (λ o. getD (o .lent) 0 []) (outcome-refused _ k g)
+pub refused-after : (words : List ℕ) (m : Move) (k : ℕ) (vs : List ℕ) → Given k vs (refusals (on words m)) → after words m ≡ words
+refused-after words (Move.opens p) k vs g = ap (λ o. getD (o .lent) 0 []) (outcome-refused _ k vs g)
+refused-after words (Move.navigates d) k vs g = ap (λ o. getD (o .lent) 0 []) (outcome-refused _ k vs g)
+refused-after words (Move.goes δ room) k vs g = ap (λ o. getD (o .lent) 0 []) (outcome-refused _ k vs g)
+refused-after words (Move.drops f) k vs g = ap (λ o. getD (o .lent) 0 []) (outcome-refused _ k vs g)
 
 -- By whether a move is accepted.
 pub by-move {ℓ} : {C : Type ℓ} (words : List ℕ) (m : Move) →
     (NoneGiven (refusals (on words m)) → after words m ≡ written words (made (tableOf words) m) → C) → (after words m ≡ words → C) → C
 by-move words m f g =
-    by-ladder (refusals (on words m)) (λ h. f h (accepted-after words m h)) (λ k h. g (refused-after words m k h))
+    by-ladder (refusals (on words m)) (λ h. f h (accepted-after words m h)) (λ k vs h. g (refused-after words m k vs h))

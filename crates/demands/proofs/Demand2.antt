@@ -1,6 +1,6 @@
 -- Demand 2: moves on a sound record follow 001's fully patched model, and saving and loading undo each other. Assumes nothing.
 use Prim.Native.Nat.{ℕ}
-use mathlib.Core.List.{List}
+use mathlib.Core.List.{List, []}
 use mathlib.Core.Logic.{_↔_, _⊎_, ⊎-elim}
 use mathlib.Core.Path.{_≡_, sym, subst}
 use native.Mathlib.Omega.{arith}
@@ -110,10 +110,10 @@ module _ (words : List ℕ) (wide : Words32 words) (s : Sound words) where
               dropped-model f a,
             );
         theorem-1 = theorem-1 (t .rows) rows;
-        absent = λ d e x. says-absent words d (first-holds 4 _ (demand1 _ .exactly 4 .0 e)) (x .0) (x .1, x .2);
-        hidden = λ d e x. clash (visible-active (t .rows) (rows .tree) d .1 x) (says-hidden words d (first-holds 5 _ (demand1 _ .exactly 5 .0 e)) .1);
+        absent = λ d e x. says-absent words d (first-holds 4 [] _ (demand1 _ .exactly 4 [] .0 e)) (x .0) (x .1, x .2);
+        hidden = λ d vs e x. clash (visible-active (t .rows) (rows .tree) d .1 x) (says-hidden words d (first-holds 5 vs _ (demand1 _ .exactly 5 vs .0 e)) .1);
         beyond = λ δ room e K x.
-            clash (outside-is (steps (t .rows)) (pos (position (t .rows)) +ℤ δ) .1 (says-beyond words δ room (first-holds 6 _ (demand1 _ .exactly 6 .0 e)))) (traversed-inside (t .rows) rows δ K x);
+            clash (outside-is (steps (t .rows)) (pos (position (t .rows)) +ℤ δ) .1 (says-beyond words δ room (first-holds 6 [] _ (demand1 _ .exactly 6 [] .0 e)))) (traversed-inside (t .rows) rows δ K x);
       }
 
 -- "Navigating and traversing give the record that the fully patched model of source document 001 gives [..] Saving and loading undo each other"

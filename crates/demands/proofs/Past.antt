@@ -70,12 +70,12 @@ sound-same a b h =
 
 -- What holds of two refusals by one number, and of what two ladders with the same rungs end in, holds of the ladders.
 module _ (R : Outcome → Outcome → Type 0) {lent runs : List (List ℕ)} {done made : Outcome}
-    (refused : (k : ℕ) → R (record { answer = Answer.refuses k; lent = lent }) (record { answer = Answer.refuses k; lent = runs })) where
+    (refused : (k : ℕ) (vs : List ℕ) → R (record { answer = Answer.refuses k vs; lent = lent }) (record { answer = Answer.refuses k vs; lent = runs })) where
   ladder-same : (rungs : List Rung) → (NoneGiven rungs → R done made) → R (ladder rungs lent done) (ladder rungs runs made)
   unfolding ladder NoneGiven
   ladder-same [] top = top tt
   ladder-same (r ∷ rungs) top =
-      test (r .holds) (λ t. rw t (refused (r .number))) (λ f. rw f (ladder-same rungs (λ n. top (f, n))))
+      test (r .holds) (λ t. rw t (refused (r .number) (r .carries))) (λ f. rw f (ladder-same rungs (λ n. top (f, n))))
 
   -- The rungs after refusals 1 and 2 are asked of a sound record only, and need be the same only there.
   guarded : (a b : List ℕ) → near a ≡ near b → {more others : List Rung} →
@@ -84,13 +84,13 @@ module _ (R : Outcome → Outcome → Type 0) {lent runs : List (List ℕ)} {don
   unfolding ladder
   guarded a b h {more} rest =
       rw (short-same a b h, sound-same a b h)
-      (test (short b) (λ t. rw t (refused 1)) (λ f.
+      (test (short b) (λ t. rw t (refused 1 [])) (λ f.
       rw f (test (sound? b)
       (λ t.
       let s = sound-is a .0 (sound-same a b h ∙ t) in
       let r = rest s (table-same a b h s) (capacity-same a b h) in
       rw (t, ← (r .0)) (ladder-same more (r .1)))
-      (λ o. rw o (refused 2)))))
+      (λ o. rw o (refused 2 [])))))
 
 -- WHAT A CALL WRITES
 
@@ -111,8 +111,9 @@ record Wrote (a : List ℕ) (o p : Outcome) : Type 0 where
   kept : Kept a (getD (o .lent) 0 [])
 
 module _ (a b : List ℕ) (h : near a ≡ near b) where
-  wrote-nothing : (rest : List (List ℕ)) (k : ℕ) → Wrote a (record { answer = Answer.refuses k; lent = a ∷ rest }) (record { answer = Answer.refuses k; lent = b ∷ rest })
-  wrote-nothing rest k = record { same = cc; kept = record { long = refl; words = refl } }
+  wrote-nothing : (rest : List (List ℕ)) (k : ℕ) (vs : List ℕ) →
+      Wrote a (record { answer = Answer.refuses k vs; lent = a ∷ rest }) (record { answer = Answer.refuses k vs; lent = b ∷ rest })
+  wrote-nothing rest k vs = record { same = cc; kept = record { long = refl; words = refl } }
 
   wrote-table : (t : Table) (values : List ℕ) (rest : List (List ℕ)) → 7 ≤ length a → length (t .rows) ≤ capacity a →
       Wrote a (values leaving written a t ∷ rest) (values leaving written b t ∷ rest)
@@ -168,13 +169,13 @@ past-spared (Call.Drop words frame) =
           let few = count-most (staysBut frame (rowsOf words)) (length (rowsOf words)) in
           rw (← ap (λ (u : Table). length (u .rows)) t, ← t) (wrote-table words other h (dropped (tableOf words) frame) _ [] (long words s) (omega (arith, dropped-length (tableOf words) frame))),
     )))
-past-spared (Call.Position words) = λ other h. guarded _≡_ (λ k. refl) words other h (λ s t c. (cc, λ n. cc))
-past-spared (Call.Visible words d) = λ other h. guarded _≡_ (λ k. refl) words other h (λ s t c. (cc, λ n. cc))
-past-spared (Call.Lists words takens upcomings) = λ other h. guarded _≡_ (λ k. refl) words other h (λ s t c. (cc, λ n. cc))
+past-spared (Call.Position words) = λ other h. guarded _≡_ (λ k vs. refl) words other h (λ s t c. (cc, λ n. cc))
+past-spared (Call.Visible words d) = λ other h. guarded _≡_ (λ k vs. refl) words other h (λ s t c. (cc, λ n. cc))
+past-spared (Call.Lists words takens upcomings) = λ other h. guarded _≡_ (λ k vs. refl) words other h (λ s t c. (cc, λ n. cc))
 past-spared (Call.Stretch takens upcomings δ) = tt
 past-spared (Call.StretchCount takens upcomings δ) = tt
-past-spared (Call.Outline words room) = λ other h. guarded _≡_ (λ k. refl) words other h (λ s t c. (cc, λ n. cc))
-past-spared (Call.Save words room) = λ other h. guarded _≡_ (λ k. refl) words other h (λ s t c. (cc, λ n. cc))
+past-spared (Call.Outline words room) = λ other h. guarded _≡_ (λ k vs. refl) words other h (λ s t c. (cc, λ n. cc))
+past-spared (Call.Save words room) = λ other h. guarded _≡_ (λ k vs. refl) words other h (λ s t c. (cc, λ n. cc))
 past-spared (Call.Load words bytes) =
     writes _ words (λ other h.
     let c = capacity-same words other h in

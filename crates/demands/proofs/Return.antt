@@ -10,14 +10,14 @@ use lib.IntN.{negsuc}
 use lib.ListN.{length}
 use borrow.Author.Tests.{eqb-true, eqb-false, eq-eqb}
 use Rattle.rules.specs.Rows.{Row, Table, none, docAt, isShown, marked, climb}
-use Rattle.rules.specs.Steps.{position, visibleAsk, visible}
+use Rattle.rules.specs.Steps.{position, visible}
 use Rattle.rules.specs.Moves.{cleared, navigated}
 use Rattle.rules.specs.Words.{tableOf, rowsOf}
 use Rattle.rules.specs.Runs.{Move, after}
 use Rattle.laws.proofs.Tests.{test, off}
 use Rattle.laws.proofs.Central.{flagsAt, central, at-at, at-position}
 use Rattle.laws.proofs.Append.{length-snoc, snoc-new, append-at}
-use Rattle.laws.proofs.Climb.{sees-out}
+use Rattle.laws.proofs.Climb.{visibleAsk, visible-is, sees-out}
 use Rattle.laws.proofs.Removal.{SoundRows, cleared-steps}
 use Rattle.laws.proofs.Travel.{walked-at}
 use Rattle.laws.proofs.Navigate.{arrival, new-step, navigated-at, arrived-steps}
@@ -31,12 +31,12 @@ use Rattle.demands.proofs.Traverses.{lands-back}
 
 -- A row that is appended and not shown is not visible, nor is a document of no row.
 hidden-append : (rows : List Row) (r : Row) → eqb (r .shown) 1 ≡ false → visible (rows ++ r ∷ []) (r .doc) ≡ false
-unfolding visible climb
+unfolding climb
 hidden-append rows r h =
     let all = rows ++ r ∷ [] in
     let here : eqb (docAt all (length rows)) (r .doc) ≡ true = eq-eqb _ _ (ap (λ x. x .doc) (snoc-new rows r)) in
     let off : isShown all (length rows) ≡ false = ap (λ x. eqb (x .shown) 1) (snoc-new rows r) ∙ h in
-    ap (λ n. climb false (visibleAsk all) all n (r .doc)) (length-snoc rows r) ∙ rw (here, off) refl
+    visible-is all (r .doc) ∙ ap (λ n. climb false (visibleAsk all) all n (r .doc)) (length-snoc rows r) ∙ rw (here, off) refl
 
 module _ (t : Table) (s : SoundRows (t .rows) (t .nextDoc) (t .nextFrame)) (unused : t .nextDoc ≢ none) (d : ℕ) (sees : So (visible (t .rows) d)) where
   abbrev c : List Row

@@ -146,8 +146,8 @@ undo-each-other =
       save-load = λ words bytes room a fits. save-left words bytes a room fits;
       accepts-only = λ words bytes wide b a. (left (Call.Load words bytes), bytes, standing .load words bytes wide b a, save-left words bytes a bytes (omega arith));
       refuses-others = λ words bytes seven.
-          let exact = demand1 (Call.Load words bytes) .exactly 3 in (
-            λ e. ⊎-elim (λ x. omega (arith, x .1)) (⊎-elim (λ x. x .1) (⊎-elim (λ x. omega (arith, x .0)) (λ x. absurd x))) (first-holds 3 (lines (Call.Load words bytes)) (exact .0 e)),
-            λ n. exact .1 (inr (λ short. omega arith, inl (refl, n))),
+          let exact = demand1 (Call.Load words bytes) .exactly 3 [] in (
+            λ e. ⊎-elim (λ x. omega (arith, x .1)) (⊎-elim (λ x. x .1) (⊎-elim (λ x. omega (arith, x .0)) (λ x. absurd x))) (first-holds 3 [] (lines (Call.Load words bytes)) (exact .0 e)),
+            λ n. exact .1 (inr (λ short. omega arith, inl (refl, n, refl))),
           );
     }

@@ -1,7 +1,7 @@
 -- Demand 2: "Navigating and traversing give the record that the fully patched model of source document 001 gives, with the readings that
 -- document 01 settles. [..] Saving and loading undo each other, and loading accepts only bytes that saving writes."
 use Prim.Native.Nat.{ℕ, _≤_, _<_}
-use mathlib.Core.List.{List}
+use mathlib.Core.List.{List, []}
 use mathlib.Core.Logic.{_↔_}
 use mathlib.Core.Bool.{Bool, So}
 use mathlib.Core.Path.{_≡_}
@@ -65,9 +65,9 @@ pub record FollowsModel (words : List ℕ) : Type 1 where
   -- "Theorem 1: [..] if H traverses the history by δ to H' and H' traverses the history by δ' to H'' then H traverses the history by δ + δ' to H''."
   pub theorem-1 : (δ δ' : ℤ) (K L : History) → Traverses δ (historyOf words) K → Traverses δ' K L → Traverses (δ +ℤ δ') (historyOf words) L
   -- What is refused by 4, 5 or 6 has no result in the model.
-  pub absent : (d : ℕ) → outcome (on words (Move.navigates d)) .answer ≡ Answer.refuses 4 → historyOf words .D d → ⊥
-  pub hidden : (d : ℕ) → outcome (on words (Move.navigates d)) .answer ≡ Answer.refuses 5 → FA (historyOf words) d → ⊥
-  pub beyond : (δ : ℤ) (room : List ℕ) → outcome (on words (Move.goes δ room)) .answer ≡ Answer.refuses 6 →
+  pub absent : (d : ℕ) → outcome (on words (Move.navigates d)) .answer ≡ Answer.refuses 4 [] → historyOf words .D d → ⊥
+  pub hidden : (d : ℕ) (vs : List ℕ) → outcome (on words (Move.navigates d)) .answer ≡ Answer.refuses 5 vs → FA (historyOf words) d → ⊥
+  pub beyond : (δ : ℤ) (room : List ℕ) → outcome (on words (Move.goes δ room)) .answer ≡ Answer.refuses 6 [] →
       (K : History) → Traverses δ (historyOf words) K → ⊥
 
 -- The demand between these two, "Opening, which that model lacks, and every answer are as document 01 defines them", is `outcome` of `rules`, which

@@ -3,6 +3,7 @@ pub mod Record
 pub mod Standing
 pub mod Past
 pub mod Refuses
+pub mod Hides
 pub mod Saving
 pub mod Model
 pub mod Follows

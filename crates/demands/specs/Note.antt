@@ -8,7 +8,7 @@ use Rattle.rules.specs.Rows.{docAt, inRecord, isFrame, flag}
 use Rattle.rules.specs.Steps.{taken, position, steps, scriptLength, visible}
 use Rattle.rules.specs.Words.{rowsOf}
 use Rattle.rules.specs.Sound.{Sound}
-use Rattle.rules.specs.Calls.{Call, Answer, outcome}
+use Rattle.rules.specs.Calls.{Call, Answer, hider, outcome}
 use Rattle.rules.specs.Runs.{Move, on, after, run}
 use Rattle.demands.specs.Record.{Words32, Accepted}
 
@@ -16,10 +16,12 @@ use Rattle.demands.specs.Record.{Words32, Accepted}
 abbrev pub positionIn : List ℕ → ℕ
 positionIn words = position (rowsOf words)
 
--- What is noted is what the calls answer: "Position answers position, steps, and length for scripts", "Visible answers yes or no for a document."
+-- What is noted is what the calls answer: "Position answers position, steps, and length for scripts"; "the visible question should answer either that the
+-- document is visible or the number of the nearest document, itself first and then upwards, that isn't shown" (document 02, L4): yes, or no and that number.
 pub record Noted (words : List ℕ) : Type 0 where
   pub position-asked : outcome (Call.Position words) .answer ≡ Answer.gives (positionIn words ∷ steps (rowsOf words) ∷ scriptLength (rowsOf words) ∷ [])
-  pub visible-asked : (d : ℕ) → So (inRecord (rowsOf words) d) → outcome (Call.Visible words d) .answer ≡ Answer.gives (flag (visible (rowsOf words) d) ∷ [])
+  pub visible-asked : (d : ℕ) → So (inRecord (rowsOf words) d) →
+      outcome (Call.Visible words d) .answer ≡ Answer.gives (flag (visible (rowsOf words) d) ∷ hider words d ∷ [])
 
 -- Document d "is one of the noted position's taken steps".
 abbrev pub TakenStep : List ℕ → ℕ → Type 0

@@ -14,6 +14,6 @@ Words32 words = (k : ℕ) → getD words k 0 ≤ none
 abbrev pub Bytes : List ℕ → Type 0
 Bytes bytes = (k : ℕ) → getD bytes k 0 ≤ 255
 
--- "A refusal returns its number alone": a call is accepted when it gives values instead.
+-- "A refusal returns its number alone", or with what hides a document: a call is accepted when it gives values instead.
 abbrev pub Accepted : Call → Type 0
 Accepted c = (values : List ℕ) × (outcome c .answer ≡ Answer.gives values)

@@ -8,7 +8,7 @@ use mathlib.Core.Path.{_≡_}
 use lib.Dec.{eqb}
 use lib.IntN.{ℤ, pos, negsuc, _+ℤ_, natAbs}
 use lib.ListN.{length}
-use Rattle.rules.specs.Rows.{Row, none, docAt, frameAt, parentAt}
+use Rattle.rules.specs.Rows.{Row, none, docAt, frameAt, parentAt, isShown}
 use Rattle.rules.specs.Steps.{position, steps, visible}
 use Rattle.rules.specs.Moves.{cleared, changes}
 use Rattle.rules.specs.Words.{capacity, tableOf, rowsOf}
@@ -44,6 +44,13 @@ Absent words d = (i : ℕ) → StandsAt words d i → ⊥
 -- "5: document there, not visible"
 abbrev pub Hidden : List ℕ → ℕ → Type 0
 Hidden words d = ((i : ℕ) × StandsAt words d i) × (visible (rowsOf words) d ≡ false)
+
+-- "the nearest document, itself first and then upwards, that isn't shown" (document 02, L4): h is that of document d when h is d and isn't shown, or when
+-- d is shown and has a parent, and h is that of its parent.
+pub data Nearest (rows : List Row) : ℕ → ℕ → Type 0 where
+  itself : {d : ℕ} (i : ℕ) → i < length rows → docAt rows i ≡ d → isShown rows i ≡ false → Nearest rows d d
+  above : {d h : ℕ} (i : ℕ) → i < length rows → docAt rows i ≡ d → So (isShown rows i) → (parentAt rows i ≡ none → ⊥) →
+      Nearest rows (parentAt rows i) h → Nearest rows d h
 
 -- "6: position + δ below 0 or above steps"
 abbrev pub Outside : ℕ → ℤ → Type 0
@@ -85,27 +92,41 @@ RootFrame words f = (i : ℕ) × RowOf words f i × (parentAt (rowsOf words) i �
 abbrev pub ParentHidden : List ℕ → ℕ → Type 0
 ParentHidden words f = (i : ℕ) × RowOf words f i × (visible (rowsOf words) (parentAt (rowsOf words) i) ≡ false)
 
--- A number and when it applies.
+-- "(for removal, that of the parent's climb)" (document 02, L4)
+abbrev pub ParentNearest : List ℕ → ℕ → ℕ → Type 0
+ParentNearest words f h = (i : ℕ) × RowOf words f i × Nearest (rowsOf words) (parentAt (rowsOf words) i) h
+
+-- These values are one number alone, such a one.
+abbrev pub One : (ℕ → Type 0) → List ℕ → Type 0
+One P vs = (h : ℕ) × (vs ≡ h ∷ []) × P h
+
+-- A number, when it applies, and which values it carries then: none, or one.
 pub record Line : Type 1 where
   pub number : ℕ
   pub condition : Type 0
+  pub carries : List ℕ → Type 0
 
 infix 70 _if_
 abbrev pub _if_ : ℕ → Type 0 → Line
-k if P = record { number = k; condition = P }
+k if P = record { number = k; condition = P; carries = λ vs. vs ≡ [] }
+
+infix 69 _carrying_
+abbrev pub _carrying_ : Line → (ℕ → Type 0) → Line
+l carrying P = record { number = l .number; condition = l .condition; carries = One P }
 
 -- THE TABLE "Nine ways to say no" with what document 02 adds, read by call: each number that the call may give, in the order in which they are asked.
 unfoldable pub lines : Call → List Line
 lines (Call.Fresh words) = 1 if Short words ∷ []
 lines (Call.Open words parent) =
-    1 if Short words ∷ 2 if Unsound words ∷ 4 if Absent words parent ∷ 5 if Hidden words parent ∷ 7 if Full words (rowsOf words)
-    ∷ 8 if (UsedUp (tableOf words .nextDoc) ⊎ UsedUp (tableOf words .nextFrame)) ∷ []
+    1 if Short words ∷ 2 if Unsound words ∷ 4 if Absent words parent ∷ 5 if Hidden words parent carrying Nearest (rowsOf words) parent
+    ∷ 7 if Full words (rowsOf words) ∷ 8 if (UsedUp (tableOf words .nextDoc) ⊎ UsedUp (tableOf words .nextFrame)) ∷ []
 lines (Call.Navigate words from) =
-    1 if Short words ∷ 2 if Unsound words ∷ 4 if Absent words from ∷ 5 if Hidden words from ∷ 7 if Full words (cleared (rowsOf words))
-    ∷ 8 if UsedUp (tableOf words .nextDoc) ∷ []
+    1 if Short words ∷ 2 if Unsound words ∷ 4 if Absent words from ∷ 5 if Hidden words from carrying Nearest (rowsOf words) from
+    ∷ 7 if Full words (cleared (rowsOf words)) ∷ 8 if UsedUp (tableOf words .nextDoc) ∷ []
 lines (Call.Traverse words δ room) = 1 if Short words ∷ 2 if Unsound words ∷ 6 if Beyond words δ ∷ 9 if TooShort room (changes (tableOf words) δ) ∷ []
 lines (Call.Drop words frame) =
-    1 if Short words ∷ 2 if Unsound words ∷ 4 if NoFrame words frame ∷ 10 if RootFrame words frame ∷ 5 if ParentHidden words frame ∷ []
+    1 if Short words ∷ 2 if Unsound words ∷ 4 if NoFrame words frame
+    ∷ 10 if RootFrame words frame ∷ 5 if ParentHidden words frame carrying ParentNearest words frame ∷ []
 lines (Call.Position words) = 1 if Short words ∷ 2 if Unsound words ∷ []
 lines (Call.Visible words d) = 1 if Short words ∷ 2 if Unsound words ∷ 4 if Absent words d ∷ []
 lines (Call.Lists words takens upcomings) =
@@ -126,18 +147,18 @@ abbrev pub among : ℕ → List ℕ → Bool
 among k [] = false
 among k (n ∷ rest) = eqb n k || among k rest
 
--- Number k is the first of these lines that applies: its condition holds, and that of no line before it does.
-unfoldable pub First : ℕ → List Line → Type 0
-First k [] = ⊥
-First k (l ∷ rest) = ((l .number ≡ k) × l .condition) ⊎ ((l .condition → ⊥) × First k rest)
+-- Number k with these values is the first of these lines that applies: its condition holds, and that of no line before it does.
+unfoldable pub First : ℕ → List ℕ → List Line → Type 0
+First k vs [] = ⊥
+First k vs (l ∷ rest) = ((l .number ≡ k) × l .condition × l .carries vs) ⊎ ((l .condition → ⊥) × First k vs rest)
 
 pub record RefusesRightly (c : Call) : Type 0 where
   -- "It refuses only by the nine refusals of document 01" and those of document 02
-  pub only : (k : ℕ) → outcome c .answer ≡ Answer.refuses k → So (among k numbers)
-  -- "exactly when that document says": where several apply, the first line of the call's table is given.
-  pub exactly : (k : ℕ) → (outcome c .answer ≡ Answer.refuses k) ↔ First k (lines c)
+  pub only : (k : ℕ) (vs : List ℕ) → outcome c .answer ≡ Answer.refuses k vs → So (among k numbers)
+  -- "exactly when that document says": where several apply, the first line of the call's table is given, with what it carries.
+  pub exactly : (k : ℕ) (vs : List ℕ) → (outcome c .answer ≡ Answer.refuses k vs) ↔ First k vs (lines c)
   -- "and then each lent word and byte reads as before"
-  pub kept : (k : ℕ) → outcome c .answer ≡ Answer.refuses k → outcome c .lent ≡ lentTo c
+  pub kept : (k : ℕ) (vs : List ℕ) → outcome c .answer ≡ Answer.refuses k vs → outcome c .lent ≡ lentTo c
 
 -- "Every call takes arbitrary table words, numbers and saved bytes [..]"
 abbrev pub Demand1 : Type 0
@@ -156,4 +177,4 @@ Applies k c = HoldsIn k (lines c)
 abbrev pub SmallestFirst : Type 0
 SmallestFirst =
     (c : Call) → ((words : List ℕ) (frame : ℕ) → c ≡ Call.Drop words frame → ⊥) →
-    (k : ℕ) → First k (lines c) ↔ (Applies k c × ((j : ℕ) → j < k → Applies j c → ⊥))
+    (k : ℕ) → ((vs : List ℕ) × First k vs (lines c)) ↔ (Applies k c × ((j : ℕ) → j < k → Applies j c → ⊥))

@@ -27,4 +27,4 @@ pub record UndoEachOther : Type 0 where
   -- "and loading accepts only bytes that saving writes": Save writes them for some sound record of 32-bit words.
   pub accepts-only : (words bytes : List ℕ) → Words32 words → Bytes bytes → Accepted (Call.Load words bytes) → (from room : List ℕ) × Stands from × Writes from room bytes
   -- All other bytes, and only they, are refused by 3, if the record is not under 7 words.
-  pub refuses-others : (words bytes : List ℕ) → 7 ≤ length words → (outcome (Call.Load words bytes) .answer ≡ Answer.refuses 3) ↔ NotSaved bytes
+  pub refuses-others : (words bytes : List ℕ) → 7 ≤ length words → (outcome (Call.Load words bytes) .answer ≡ Answer.refuses 3 []) ↔ NotSaved bytes

@@ -45,6 +45,7 @@ determined =
       turn = λ words changes line x y e f. let g = sym e ∙ f in λ i. (reply-injective (x .0) (y .0) (ap (λ z. z .said) g) i, g i .words, g i .changes);
       parse = λ line x y e f. command-injective x y (e ∙ sym f);
       host = λ c olds x y e f. let g = sym e ∙ f in λ i. (g i .number, g i .outs, g i .lent);
+      host-hiding = λ c olds old x y e f. let g = sym e ∙ f in λ i. (g i .seen .number, g i .seen .outs, g i .seen .lent, g i .hiding);
       host-rows = λ words δ rows olds (n, outs, words', rows') (m, outs', words'', rows'') e f.
           let g = sym e ∙ f in λ i. (g i .number, g i .outs, getD (g i .lent) 0 [], rows-alike words' words'' rows' rows'' (ap (λ z. z .lent) g) i);
     }

@@ -8,7 +8,7 @@ use lib.Dec.{eqb}
 use lib.ListN.{getD}
 use Rattle.base.specs.declared.Refusal.{Refusal}
 use Rattle.base.specs.declared.Refusal.the-variants.{ShortRecord, Unsound, NotSaved, Absent, Hidden, Beyond, Full, UsedUp, ShortBuffer, RootFrame}
-use Rattle.base.specs.Numbers.{numberOf}
+use Rattle.base.specs.Numbers.{numberOf, carriedBy}
 use Rattle.rules.specs.Calls.{Answer}
 use Rattle.moves.specs.declared.Freshened.the-variants as Freshens
 use Rattle.moves.specs.declared.Opened.the-variants as Opens
@@ -37,34 +37,30 @@ use Rattle.lines.specs.declared.Reply.the-variants as Replies
 use Rattle.lines.specs.Lines.{Command, commandIs}
 use Rattle.lines.specs.Reply.{Said, replyIs}
 
--- The refusal that a number is given for.
-refusalBy : ℕ → Refusal
-refusalBy k =
-    getD (ShortRecord ∷ ShortRecord ∷ Unsound ∷ NotSaved ∷ Absent ∷ Hidden ∷ Beyond ∷ Full ∷ UsedUp ∷ ShortBuffer ∷ RootFrame ∷ []) k ShortRecord
+-- The refusal that a number is given for, with what it carries.
+refusalBy : ℕ → List ℕ → Refusal
+refusalBy k carried =
+    getD (ShortRecord ∷ ShortRecord ∷ Unsound ∷ NotSaved ∷ Absent ∷ Hidden (record { 0 = getD carried 0 0 }) ∷ Beyond ∷ Full ∷ UsedUp ∷ ShortBuffer ∷ RootFrame ∷ []) k ShortRecord
 
--- It is the refusal that has the number.
-number-back : LeftInverse refusalBy numberOf
+-- It is the refusal that has the number and carries that: no two have both.
+refusal-back : (r : Refusal) → refusalBy (numberOf r) (carriedBy r) ≡ r
 unfolding refusalBy
-number-back ShortRecord = refl
-number-back Unsound = refl
-number-back NotSaved = refl
-number-back Absent = refl
-number-back Hidden = refl
-number-back Beyond = refl
-number-back Full = refl
-number-back UsedUp = refl
-number-back ShortBuffer = refl
-number-back RootFrame = refl
-
--- No two refusals have one number.
-pub number-injective : Injective numberOf
-number-injective = LeftInverse·injective refusalBy numberOf number-back
+refusal-back ShortRecord = refl
+refusal-back Unsound = refl
+refusal-back NotSaved = refl
+refusal-back Absent = refl
+refusal-back (Hidden d) = refl
+refusal-back Beyond = refl
+refusal-back Full = refl
+refusal-back UsedUp = refl
+refusal-back ShortBuffer = refl
+refusal-back RootFrame = refl
 
 module _ {A : Type 0} where
   -- The result that an answer is given for: one of the values, or a refusal.
   abbrev resultBy : (List ℕ → A) → (Refusal → A) → Answer → A
   resultBy given refused (Answer.gives values) = given values
-  resultBy given refused (Answer.refuses k) = refused (refusalBy k)
+  resultBy given refused (Answer.refuses k carried) = refused (refusalBy k carried)
 
   -- Where each result is the one that its answer is given for, no two have one answer.
   told-back : (is : A → Answer) (given : List ℕ → A) (refused : Refusal → A) → LeftInverse (resultBy given refused) is → Injective is
@@ -72,74 +68,74 @@ module _ {A : Type 0} where
 
 -- So it is of each call: the result of the values, and of a refusal.
 pub fresh-injective : Injective freshIs
-fresh-injective = told-back freshIs (λ v. Freshens.Done) Freshens.Refused λ r. elim r [ Freshens.Done ↦ refl | Freshens.Refused k ↦ ap Freshens.Refused (number-back k) ]
+fresh-injective = told-back freshIs (λ v. Freshens.Done) Freshens.Refused λ r. elim r [ Freshens.Done ↦ refl | Freshens.Refused k ↦ ap Freshens.Refused (refusal-back k) ]
 
 pub opened-injective : Injective openedIs
 opened-injective =
     told-back openedIs (λ v. Opens.Numbers (record { 0 = getD v 0 0 }) (record { 0 = getD v 1 0 })) Opens.Refused
-    λ r. elim r [ Opens.Numbers d f ↦ refl | Opens.Refused k ↦ ap Opens.Refused (number-back k) ]
+    λ r. elim r [ Opens.Numbers d f ↦ refl | Opens.Refused k ↦ ap Opens.Refused (refusal-back k) ]
 
 pub navigated-injective : Injective navigatedIs
 navigated-injective =
     told-back navigatedIs (λ v. Navigateds.Arrived (record { 0 = getD v 0 0 })) Navigateds.Refused
-    λ r. elim r [ Navigateds.Arrived d ↦ refl | Navigateds.Refused k ↦ ap Navigateds.Refused (number-back k) ]
+    λ r. elim r [ Navigateds.Arrived d ↦ refl | Navigateds.Refused k ↦ ap Navigateds.Refused (refusal-back k) ]
 
 pub dropped-injective : Injective droppedIs
 dropped-injective =
     told-back droppedIs (λ v. Droppeds.Rows (getD v 0 0)) Droppeds.Refused
-    λ r. elim r [ Droppeds.Rows n ↦ refl | Droppeds.Refused k ↦ ap Droppeds.Refused (number-back k) ]
+    λ r. elim r [ Droppeds.Rows n ↦ refl | Droppeds.Refused k ↦ ap Droppeds.Refused (refusal-back k) ]
 
 pub traversed-injective : Injective traversedIs
 traversed-injective =
     told-back traversedIs (λ v. Traverseds.Changes (getD v 0 0)) Traverseds.Refused
-    λ r. elim r [ Traverseds.Changes n ↦ refl | Traverseds.Refused k ↦ ap Traverseds.Refused (number-back k) ]
+    λ r. elim r [ Traverseds.Changes n ↦ refl | Traverseds.Refused k ↦ ap Traverseds.Refused (refusal-back k) ]
 
 pub standing-injective : Injective standingIs
 standing-injective =
     told-back standingIs (λ v. Standings.At (getD v 0 0) (getD v 1 0) (getD v 2 0)) Standings.Refused
-    λ r. elim r [ Standings.At p s l ↦ refl | Standings.Refused k ↦ ap Standings.Refused (number-back k) ]
+    λ r. elim r [ Standings.At p s l ↦ refl | Standings.Refused k ↦ ap Standings.Refused (refusal-back k) ]
 
 pub sight-injective : Injective sightIs
 sight-injective =
-    told-back sightIs (λ v. cond (eqb (getD v 0 0) 1) Sights.Visible Sights.Hidden) Sights.Refused
-    λ r. elim r [ Sights.Visible ↦ refl | Sights.Hidden ↦ refl | Sights.Refused k ↦ ap Sights.Refused (number-back k) ]
+    told-back sightIs (λ v. cond (eqb (getD v 0 0) 1) Sights.Visible (Sights.Hidden (record { 0 = getD v 1 0 }))) Sights.Refused
+    λ r. elim r [ Sights.Visible ↦ refl | Sights.Hidden d ↦ refl | Sights.Refused k ↦ ap Sights.Refused (refusal-back k) ]
 
 pub listed-injective : Injective listedIs
 listed-injective =
     told-back listedIs (λ v. Lists.Counts (getD v 0 0) (getD v 1 0)) Lists.Refused
-    λ r. elim r [ Lists.Counts t u ↦ refl | Lists.Refused k ↦ ap Lists.Refused (number-back k) ]
+    λ r. elim r [ Lists.Counts t u ↦ refl | Lists.Refused k ↦ ap Lists.Refused (refusal-back k) ]
 
 pub stretch-injective : Injective stretchIs
 stretch-injective =
     told-back stretchIs (λ v. Stretches.Count (getD v 0 0)) Stretches.Refused
-    λ r. elim r [ Stretches.Count n ↦ refl | Stretches.Refused k ↦ ap Stretches.Refused (number-back k) ]
+    λ r. elim r [ Stretches.Count n ↦ refl | Stretches.Refused k ↦ ap Stretches.Refused (refusal-back k) ]
 
 pub outlined-injective : Injective outlinedIs
 outlined-injective =
     told-back outlinedIs (λ v. Outlines.Pairs (getD v 0 0)) Outlines.Refused
-    λ r. elim r [ Outlines.Pairs n ↦ refl | Outlines.Refused k ↦ ap Outlines.Refused (number-back k) ]
+    λ r. elim r [ Outlines.Pairs n ↦ refl | Outlines.Refused k ↦ ap Outlines.Refused (refusal-back k) ]
 
 pub saving-injective : Injective savingIs
 saving-injective =
     told-back savingIs (λ v. Savings.Length (getD v 0 0)) Savings.Refused
-    λ r. elim r [ Savings.Length n ↦ refl | Savings.Refused k ↦ ap Savings.Refused (number-back k) ]
+    λ r. elim r [ Savings.Length n ↦ refl | Savings.Refused k ↦ ap Savings.Refused (refusal-back k) ]
 
 pub loading-injective : Injective loadingIs
 loading-injective =
     told-back loadingIs (λ v. Loadings.Rows (getD v 0 0)) Loadings.Refused
-    λ r. elim r [ Loadings.Rows n ↦ refl | Loadings.Refused k ↦ ap Loadings.Refused (number-back k) ]
+    λ r. elim r [ Loadings.Rows n ↦ refl | Loadings.Refused k ↦ ap Loadings.Refused (refusal-back k) ]
 
 -- The reply that is printed so; no two are printed alike.
 replyBy : Said → Reply
 replyBy (Said.ok v p s) = Replies.Ok v p s
-replyBy (Said.denied k p s) = Replies.No (refusalBy k) p s
+replyBy (Said.denied k carried p s) = Replies.No (refusalBy k carried) p s
 replyBy Said.bad = Replies.Bad
 
 pub reply-injective : Injective replyIs
 unfolding replyBy
 reply-injective =
     LeftInverse·injective replyBy replyIs
-    λ r. elim r [ Replies.Ok v p s ↦ refl | Replies.No k p s ↦ ap (λ x. Replies.No x p s) (number-back k) | Replies.Bad ↦ refl ]
+    λ r. elim r [ Replies.Ok v p s ↦ refl | Replies.No k p s ↦ ap (λ x. Replies.No x p s) (refusal-back k) | Replies.Bad ↦ refl ]
 
 -- The command that asks this; no two ask the same.
 readBy : Command → Read

@@ -22,7 +22,7 @@ use Rattle.lines.specs.declared.Reply.{Reply}
 use Rattle.lines.specs.Lines.{parse as parseOf, commandIs}
 use Rattle.lines.specs.Reply.{replyIs}
 use Rattle.turns.specs.Turns.{turned}
-use Rattle.frame_history.specs.Face.{face}
+use Rattle.frame_history.specs.Face.{face, hidingFace}
 
 -- "Any two outcomes that satisfy a promise are shown equal": P is the promise.
 abbrev pub AtMostOne : (A : Type 0) → (A → Type 0) → Type 0
@@ -63,6 +63,10 @@ pub record Determined : Type 0 where
   -- Each call for C, whose out words held `olds`: the number returned, the out words and the lent runs; and with change rows as structs.
   pub host : (c : Call) (olds : List ℕ) →
       AtMostOne (ℕ × List ℕ × List (List ℕ)) λ (n, outs, runs). face (outcome c) olds ≡ record { number = n; outs = outs; lent = runs }
+  -- And of those whose refusal 5 carries a document, the out word for it, which held `old`.
+  pub host-hiding : (c : Call) (olds : List ℕ) (old : ℕ) →
+      AtMostOne (ℕ × List ℕ × List (List ℕ) × ℕ) λ (n, outs, runs, new).
+      hidingFace (outcome c) olds old ≡ record { seen = record { number = n; outs = outs; lent = runs }; hiding = new }
   pub host-rows : (words : List ℕ) (δ : ℤ) (rows : List ChangeRow) (olds : List ℕ) →
       AtMostOne (ℕ × List ℕ × List ℕ × List ChangeRow) λ (n, outs, words', rows').
       face (outcome (Call.Traverse words δ (plain rows))) olds ≡ record { number = n; outs = outs; lent = words' ∷ plain rows' ∷ [] }

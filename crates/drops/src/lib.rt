@@ -2,6 +2,7 @@
 //
 // What bounds it, for n rows: one pass over them, up to the frame's first row in search of it and from there on closing the gaps. On the way a row looks back for its parent
 // among the rows kept so far, and not at all where that is the parent found last or the one missed last.
+use asks::Hider;
 use base::DocNo;
 use base::FrameNo;
 use base::Refusal;
@@ -51,10 +52,10 @@ fn judge(words: &[u32], frame: FrameNo, first: RowPlace) -> Check
         return Check::No(Refusal::RootFrame);
     }
     let above = packs::place_before(words, first.0, up);
-    if !asks::climb(words, above) {
-        return Check::No(Refusal::Hidden);
+    match asks::hiding(words, above) {
+        Hider::Document(h) => Check::No(Refusal::Hidden(h)),
+        Hider::Nobody => Check::Sound,
     }
-    Check::Sound
 }
 
 // One document or the other.

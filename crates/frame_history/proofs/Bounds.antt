@@ -32,14 +32,14 @@ use Rattle.frame_history.specs.Face.{Small}
 -- The k-th value of an answer.
 abbrev value : ℕ → Answer → ℕ
 value k (Answer.gives values) = getD values k 0
-value k (Answer.refuses j) = 0
+value k (Answer.refuses j carried) = 0
 
 -- A call that gives values is not refused, and they are those of the accepted call.
 module _ (c : Call) (a : Answer) (runs : List (List ℕ)) (values : List ℕ) (e : outcome c ≡ record { answer = a; lent = runs }) (g : a ≡ Answer.gives values) where
   not-refused : NoneGiven (refusals c)
   not-refused =
-      by-ladder (refusals c) (λ h. h) (λ k r.
-      let f : Answer.refuses k ≡ Answer.gives values = ap (λ o. o .answer) (sym (outcome-refused c k r) ∙ e) ∙ g in
+      by-ladder (refusals c) (λ h. h) (λ k vs r.
+      let f : Answer.refuses k vs ≡ Answer.gives values = ap (λ o. o .answer) (sym (outcome-refused c k vs r) ∙ e) ∙ g in
       let z : _≡_ {A = ℕ} 0 1 = cc in
       absurd (omega arith))
 

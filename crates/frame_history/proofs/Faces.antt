@@ -1,11 +1,11 @@
 -- From what a call answers to what a host sees. Assumes nothing.
 use Prim.Native.Nat.{ℕ}
 use mathlib.Core.List.{List, [], _∷_}
-use mathlib.Core.Path.{_≡_, ap, sym, _∙_}
+use mathlib.Core.Path.{_≡_, ap, ap₂, sym, _∙_}
 use Rattle.rules.specs.Calls.{Call, Answer, outcome}
 use Rattle.traverses.specs.declared.Traversed.{Traversed}
 use Rattle.traverses.specs.Answers.{traversedIs}
-use Rattle.frame_history.specs.Face.{shown, face, Told}
+use Rattle.frame_history.specs.Face.{shown, face, carriedOr, hidingIn, HidingFace, hidingFace, Told}
 
 module _ (c : Call) (a : Answer) (runs : List (List ℕ)) (olds : List ℕ) (e : outcome c ≡ record { answer = a; lent = runs }) where
   -- Values are given: the host sees 0 and them.
@@ -13,8 +13,20 @@ module _ (c : Call) (a : Answer) (runs : List (List ℕ)) (olds : List ℕ) (e :
   face-gives values g = ap (λ o. face o olds) e ∙ ap (λ x. shown x olds runs) g
 
   -- A refusal: the host sees its number, and the out words as they were.
-  pub face-refuses : (k r : ℕ) → a ≡ Answer.refuses k → r ≡ k → face (outcome c) olds ≡ record { number = r; outs = olds; lent = runs }
-  face-refuses k r g n = ap (λ o. face o olds) e ∙ ap (λ x. shown x olds runs) (g ∙ ap Answer.refuses (sym n))
+  pub face-refuses : (k : ℕ) (vs : List ℕ) (r : ℕ) → a ≡ Answer.refuses k vs → r ≡ k → face (outcome c) olds ≡ record { number = r; outs = olds; lent = runs }
+  face-refuses k vs r g n = ap (λ o. face o olds) e ∙ ap (λ x. shown x olds runs) (g ∙ ap (λ m. Answer.refuses m vs) (sym n))
+
+  -- The same with the out word for what a refusal carries: kept where values are given, and written where something is carried.
+  module _ (old : ℕ) where
+    pub hiding-gives : (values : List ℕ) → a ≡ Answer.gives values →
+        hidingFace (outcome c) olds old ≡ record { seen = record { number = 0; outs = values; lent = runs }; hiding = old }
+    hiding-gives values g = ap (λ o. hidingFace o olds old) e ∙ ap (λ x. record { seen = shown x olds runs; hiding = hidingIn x old }) g
+
+    pub hiding-refuses : (k : ℕ) (vs : List ℕ) (r new : ℕ) → a ≡ Answer.refuses k vs → (r ≡ k) × (new ≡ carriedOr vs old) →
+        hidingFace (outcome c) olds old ≡ record { seen = record { number = r; outs = olds; lent = runs }; hiding = new }
+    hiding-refuses k vs r new g h =
+        ap (λ o. hidingFace o olds old) e ∙ ap (λ x. record { seen = shown x olds runs; hiding = hidingIn x old }) g
+        ∙ ap₂ (λ n m. record { seen = record { number = n; outs = olds; lent = runs }; hiding = m }) (sym (h .0)) (sym (h .1))
 
 -- Traverse's answer told.
 pub face-told : (c : Call) (answer : Traversed) (runs : List (List ℕ)) (old new r : ℕ) → outcome c ≡ record { answer = traversedIs answer; lent = runs } → Told answer old new r →

@@ -1,10 +1,13 @@
-// What a host calls: each call answers 0 or the refusal's number, and its values through out words, which keep what they hold on refusal.
+// What a host calls: each call answers 0 or the refusal's number, and its values through out words, which keep what they hold on refusal. What refusal 5
+// carries is told through an out word of its own, the only one that a refusal writes.
 use asks::Listed;
 use asks::Sight;
 use asks::Standing;
 use asks::Stretched;
+use base::Carried;
 use base::DocNo;
 use base::FrameNo;
+use base::Refusal;
 use changes::ChangeRow;
 use drops::Dropped;
 use loads::Loading;
@@ -12,13 +15,33 @@ use moves::Freshened;
 use moves::Opened;
 use navigates::Navigated;
 use outlines::Outlined;
+use reads::NONE;
 use saved::Saving;
 use traverses::Traversed;
 ghost use mathlib.Core.Path.{_≡_};
 ghost use mathlib.Core.List.{[], _∷_};
 ghost use Rattle.rules.specs.Calls.{Call, outcome};
 ghost use Rattle.changes.specs.Changes.{plain};
-ghost use Rattle.frame_history.specs.Face.{face, Small, Told};
+ghost use Rattle.base.specs.Numbers.{numberOf, carriedBy};
+ghost use Rattle.frame_history.specs.Face.{face, carriedOr, hidingFace, Small, Told};
+
+// The document that a refusal carries, or what was there.
+fn carried_or(why: Refusal, old: u32) -> u32
+    ensures { λ r. ⌜ r ≡ carriedOr (carriedBy why) old ⌝ }
+{
+    match base::refusal_carries(why) {
+        Carried::Document(d) => d.0,
+        Carried::Nothing => old,
+    }
+}
+
+// The number of a refusal, and through an out word the document that it carries.
+fn refused(why: Refusal, hiding: &mut u32) -> u32
+    ensures { λ r. ⌜ (r ≡ numberOf why) × (now (hiding .exit) ≡ carriedOr (carriedBy why) (now (hiding .entry))) ⌝ }
+{
+    *hiding = carried_or(why, *hiding);
+    base::refusal_number(why)
+}
 
 // Writes the record of a new window: one document in the root frame.
 #[no_mangle]
@@ -38,9 +61,10 @@ pub extern "C" fn frame_history_open(
     parent: u32,
     document: &mut u32,
     frame: &mut u32,
+    hiding: &mut u32,
 ) -> u32
-    ensures { λ r. ⌜ face (outcome (Call.Open (now (words .entry)) parent)) (now (document .entry) ∷ now (frame .entry) ∷ [])
-        ≡ record { number = r; outs = now (document .exit) ∷ now (frame .exit) ∷ []; lent = now (words .exit) ∷ [] } ⌝ }
+    ensures { λ r. ⌜ hidingFace (outcome (Call.Open (now (words .entry)) parent)) (now (document .entry) ∷ now (frame .entry) ∷ []) (now (hiding .entry))
+        ≡ record { seen = record { number = r; outs = now (document .exit) ∷ now (frame .exit) ∷ []; lent = now (words .exit) ∷ [] }; hiding = now (hiding .exit) } ⌝ }
 {
     match moves::open_frame(words, DocNo(parent)) {
         Opened::Numbers(d, f) => {
@@ -48,37 +72,47 @@ pub extern "C" fn frame_history_open(
             *frame = f.0;
             0
         }
-        Opened::Refused(r) => base::refusal_number(r),
+        Opened::Refused(r) => refused(r, hiding),
     }
 }
 
 // Navigates from a visible document: the number of the new document.
 #[no_mangle]
-pub extern "C" fn frame_history_navigate(words: &mut [u32], from: u32, document: &mut u32) -> u32
-    ensures { λ r. ⌜ face (outcome (Call.Navigate (now (words .entry)) from)) (now (document .entry) ∷ [])
-        ≡ record { number = r; outs = now (document .exit) ∷ []; lent = now (words .exit) ∷ [] } ⌝ }
+pub extern "C" fn frame_history_navigate(
+    words: &mut [u32],
+    from: u32,
+    document: &mut u32,
+    hiding: &mut u32,
+) -> u32
+    ensures { λ r. ⌜ hidingFace (outcome (Call.Navigate (now (words .entry)) from)) (now (document .entry) ∷ []) (now (hiding .entry))
+        ≡ record { seen = record { number = r; outs = now (document .exit) ∷ []; lent = now (words .exit) ∷ [] }; hiding = now (hiding .exit) } ⌝ }
 {
     match navigates::navigate(words, DocNo(from)) {
         Navigated::Arrived(d) => {
             *document = d.0;
             0
         }
-        Navigated::Refused(r) => base::refusal_number(r),
+        Navigated::Refused(r) => refused(r, hiding),
     }
 }
 
 // Takes a frame out, with all beneath it: how many rows went.
 #[no_mangle]
-pub extern "C" fn frame_history_drop(words: &mut [u32], frame: u32, removed: &mut u32) -> u32
-    ensures { λ r. ⌜ face (outcome (Call.Drop (now (words .entry)) frame)) (now (removed .entry) ∷ [])
-        ≡ record { number = r; outs = now (removed .exit) ∷ []; lent = now (words .exit) ∷ [] } ⌝ }
+pub extern "C" fn frame_history_drop(
+    words: &mut [u32],
+    frame: u32,
+    removed: &mut u32,
+    hiding: &mut u32,
+) -> u32
+    ensures { λ r. ⌜ hidingFace (outcome (Call.Drop (now (words .entry)) frame)) (now (removed .entry) ∷ []) (now (hiding .entry))
+        ≡ record { seen = record { number = r; outs = now (removed .exit) ∷ []; lent = now (words .exit) ∷ [] }; hiding = now (hiding .exit) } ⌝ }
 {
     match drops::drop_frame(words, FrameNo(frame)) {
         Dropped::Rows(n) => {
             *removed = n as u32;
             0
         }
-        Dropped::Refused(r) => base::refusal_number(r),
+        Dropped::Refused(r) => refused(r, hiding),
     }
 }
 
@@ -148,19 +182,26 @@ pub extern "C" fn frame_history_position(
     }
 }
 
-// Whether a document is visible: 1 or 0.
+// Whether a document is visible: 1 or 0; and who hides it.
 #[no_mangle]
-pub extern "C" fn frame_history_visible(words: &[u32], document: u32, answer: &mut u32) -> u32
-    ensures { λ r. ⌜ face (outcome (Call.Visible (now (words .entry)) document)) (now (answer .entry) ∷ [])
-        ≡ record { number = r; outs = now (answer .exit) ∷ []; lent = [] } ⌝ }
+pub extern "C" fn frame_history_visible(
+    words: &[u32],
+    document: u32,
+    answer: &mut u32,
+    hiding: &mut u32,
+) -> u32
+    ensures { λ r. ⌜ face (outcome (Call.Visible (now (words .entry)) document)) (now (answer .entry) ∷ now (hiding .entry) ∷ [])
+        ≡ record { number = r; outs = now (answer .exit) ∷ now (hiding .exit) ∷ []; lent = [] } ⌝ }
 {
     match asks::visible(words, DocNo(document)) {
         Sight::Visible => {
             *answer = 1;
+            *hiding = NONE;
             0
         }
-        Sight::Hidden => {
+        Sight::Hidden(h) => {
             *answer = 0;
+            *hiding = h.0;
             0
         }
         Sight::Refused(r) => base::refusal_number(r),

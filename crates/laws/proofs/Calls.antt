@@ -7,11 +7,15 @@ use Rattle.rules.specs.Calls.{Call, Answer, Outcome, Rung, lentTo, refusals, ac
 use Rattle.laws.proofs.Tests.{test}
 
 abbrev numberIn : Answer → ℕ
-numberIn (Answer.refuses k) = k
+numberIn (Answer.refuses k carried) = k
 numberIn (Answer.gives values) = 0
 
+abbrev carriedIn : Answer → List ℕ
+carriedIn (Answer.refuses k carried) = carried
+carriedIn (Answer.gives values) = []
+
 abbrev IsGiven : Answer → Type 0
-IsGiven (Answer.refuses k) = ⊥
+IsGiven (Answer.refuses k carried) = ⊥
 IsGiven (Answer.gives values) = Unit {0}
 
 module _ (lent : List (List ℕ)) (done : Outcome) where
@@ -20,21 +24,21 @@ module _ (lent : List (List ℕ)) (done : Outcome) where
   ladder-none [] h = refl
   ladder-none (r ∷ rungs) h = rw (h .0) (ladder-none rungs (h .1))
 
-  pub ladder-given : (k : ℕ) (rungs : List Rung) → Given k rungs → ladder rungs lent done ≡ record { answer = Answer.refuses k; lent = lent }
+  pub ladder-given : (k : ℕ) (vs : List ℕ) (rungs : List Rung) → Given k vs rungs → ladder rungs lent done ≡ record { answer = Answer.refuses k vs; lent = lent }
   unfolding ladder Given
-  ladder-given k [] h = absurd h
-  ladder-given k (r ∷ rungs) h = ⊎-elim (λ g. rw (g .0, g .1) refl) (λ g. rw (g .0) (ladder-given k rungs (g .1))) h
+  ladder-given k vs [] h = absurd h
+  ladder-given k vs (r ∷ rungs) h = ⊎-elim (λ g. rw (g .0, g .1, g .2) refl) (λ g. rw (g .0) (ladder-given k vs rungs (g .1))) h
 
 -- By what the ladder says.
-pub by-ladder {ℓ} : {C : Type ℓ} (rungs : List Rung) → (NoneGiven rungs → C) → ((k : ℕ) → Given k rungs → C) → C
+pub by-ladder {ℓ} : {C : Type ℓ} (rungs : List Rung) → (NoneGiven rungs → C) → ((k : ℕ) (vs : List ℕ) → Given k vs rungs → C) → C
 unfolding Given NoneGiven
 by-ladder [] a b = a tt
 by-ladder (r ∷ rungs) a b =
-    test (r .holds) (λ t. b (r .number) (inl (t, refl))) (λ f. by-ladder rungs (λ h. a (f, h)) (λ k g. b k (inr (f, g))))
+    test (r .holds) (λ t. b (r .number) (r .carries) (inl (t, refl, refl))) (λ f. by-ladder rungs (λ h. a (f, h)) (λ k vs g. b k vs (inr (f, g))))
 
-pub accepted-gives : (c : Call) (k : ℕ) → accepted c .answer ≡ Answer.refuses k → ⊥
+pub accepted-gives : (c : Call) (k : ℕ) (vs : List ℕ) → accepted c .answer ≡ Answer.refuses k vs → ⊥
 unfolding accepted
-accepted-gives c k e = subst IsGiven e (given c)
+accepted-gives c k vs e = subst IsGiven e (given c)
   where
     given : (c : Call) → IsGiven (accepted c .answer)
     given (Call.Fresh words) = tt
@@ -56,20 +60,22 @@ module _ (c : Call) where
   unfolding outcome
   outcome-accepted h = ladder-none (lentTo c) (accepted c) (refusals c) h
 
-  pub outcome-refused : (k : ℕ) → Given k (refusals c) → outcome c ≡ record { answer = Answer.refuses k; lent = lentTo c }
+  pub outcome-refused : (k : ℕ) (vs : List ℕ) → Given k vs (refusals c) → outcome c ≡ record { answer = Answer.refuses k vs; lent = lentTo c }
   unfolding outcome
-  outcome-refused k h = ladder-given (lentTo c) (accepted c) k (refusals c) h
+  outcome-refused k vs h = ladder-given (lentTo c) (accepted c) k vs (refusals c) h
 
-  -- A call is refused by number k exactly when the table gives k.
-  pub refused-when : (k : ℕ) → (outcome c .answer ≡ Answer.refuses k) ↔ Given k (refusals c)
-  refused-when k = (
+  -- A call is refused by number k, which carries these values, exactly when the table gives k with them.
+  pub refused-when : (k : ℕ) (vs : List ℕ) → (outcome c .answer ≡ Answer.refuses k vs) ↔ Given k vs (refusals c)
+  refused-when k vs = (
     λ e.
         by-ladder (refusals c)
-        (λ h. absurd (accepted-gives c k (ap (λ o. o .answer) (sym (outcome-accepted h)) ∙ e)))
-        (λ j g. subst (λ m. Given m (refusals c)) (ap numberIn (ap (λ o. o .answer) (sym (outcome-refused j g)) ∙ e)) g),
-    λ g. ap (λ o. o .answer) (outcome-refused k g),
+        (λ h. absurd (accepted-gives c k vs (ap (λ o. o .answer) (sym (outcome-accepted h)) ∙ e)))
+        (λ j us g.
+        let same : Answer.refuses j us ≡ Answer.refuses k vs = ap (λ o. o .answer) (sym (outcome-refused j us g)) ∙ e in
+        rw (ap numberIn same, ap carriedIn same) at g),
+    λ g. ap (λ o. o .answer) (outcome-refused k vs g),
   )
 
   -- And then every lent run reads as before.
-  pub refused-keeps : (k : ℕ) → outcome c .answer ≡ Answer.refuses k → outcome c .lent ≡ lentTo c
-  refused-keeps k e = ap (λ o. o .lent) (outcome-refused k (refused-when k .0 e))
+  pub refused-keeps : (k : ℕ) (vs : List ℕ) → outcome c .answer ≡ Answer.refuses k vs → outcome c .lent ≡ lentTo c
+  refused-keeps k vs e = ap (λ o. o .lent) (outcome-refused k vs (refused-when k vs .0 e))

@@ -1,19 +1,20 @@
--- The climb from a row to its parent's: what stands beneath a row, and what is visible. Assumes nothing.
+-- The climb from a row to its parent's: what stands beneath a row, what is visible, and what hides it. Assumes nothing.
 use Prim.Native.Nat.{ℕ, zero, suc, _≤_, _<_}
 use mathlib.Core.Path.{_≡_, refl, sym, _∙_}
 use mathlib.Core.List.{List}
-use mathlib.Core.Logic.{_⊎_, inl, inr, ⊎-elim}
-use mathlib.Core.Bool.{Bool, false, So, false≢true, and-eq-true-iff}
+use mathlib.Core.Logic.{_⊎_, _↔_, inl, inr, ⊎-elim}
+use mathlib.Core.Bool.{Bool, false, _&&_, _||_, So, false≢true, and-eq-true-iff}
 use native.Mathlib.Nat.{not-suc-le-zero}
 use native.Mathlib.Omega.{arith}
 use lib.Dec.{eqb}
 use lib.ListN.{length}
-use borrow.Author.Tests.{eqb-true, eq-eqb, ne-eqb}
+use borrow.Author.Tests.{eqb-true, eqb-false, eq-eqb, ne-eqb}
 use Rattle.rules.specs.Rows.{Row, none, docAt, parentAt, isShown, isDoc, climb}
-use Rattle.rules.specs.Steps.{visibleAsk, visibleAt, visible}
+use Rattle.rules.specs.Steps.{Hider, isNobody, hiderAsk, lost, hiderAt, hiderOf, visibleAt, visible}
 use Rattle.rules.specs.Moves.{beneathAsk, gone}
+use Rattle.rules.specs.Sound.{S4}
 use Rattle.laws.proofs.Tests.{test, or-left, or-right, or-cases, below-cases}
-use Rattle.laws.proofs.Tree.{TreeOf, distinct}
+use Rattle.laws.proofs.Tree.{TreeOf, Once, distinct}
 
 module _ {A : Type 0} (lost : A) (ask : (ℕ → A) → ℕ → A) (rows : List Row) where
   -- Where no row has the document, the question is lost.
@@ -33,11 +34,23 @@ module _ {A : Type 0} (lost : A) (ask : (ℕ → A) → ℕ → A) (rows : List 
       (λ m. rw (ne-eqb _ _ (h k m (omega arith))) (climb-found k d m e (λ i a b. h i a (omega arith))))
       (below-cases l)
 
-  -- In a tree a document has one row.
+  -- Where a document has one row, as in a tree, that row answers.
+  pub climb-once : Once (length rows) (docAt rows) → (k d : ℕ) {j : ℕ} → k ≤ length rows → j < k → docAt rows j ≡ d →
+      climb lost ask rows k d ≡ ask (climb lost ask rows j) j
+  climb-once once k d {j} n l e =
+      climb-found k d l e (λ m a b q. let z = once m j (omega arith) (omega arith) (q ∙ sym e) in omega arith)
+
   pub climb-is : {a b : ℕ} → TreeOf rows a b → (k d : ℕ) {j : ℕ} → k ≤ length rows → j < k → docAt rows j ≡ d →
       climb lost ask rows k d ≡ ask (climb lost ask rows j) j
-  climb-is t k d {j} n l e =
-      climb-found k d l e (λ m a b q. let z = distinct t m j (omega arith) (omega arith) (q ∙ sym e) in omega arith)
+  climb-is t k d {j} n l e = climb-once (distinct t) k d {j = j} n l e
+
+-- Where row by row g makes one question's answers those of another, it does so all the way up.
+pub climb-along : {A B : Type 0} (g : A → B) {lost : A} {ask : (ℕ → A) → ℕ → A} {lost' : B} {ask' : (ℕ → B) → ℕ → B} (rows : List Row) → g lost ≡ lost' →
+    ((up : ℕ → A) (up' : ℕ → B) → ((d : ℕ) → g (up d) ≡ up' d) → (k : ℕ) → g (ask up k) ≡ ask' up' k) → (k d : ℕ) → g (climb lost ask rows k d) ≡ climb lost' ask' rows k d
+unfolding climb
+climb-along g rows l a zero d = l
+climb-along g rows l a (suc k) d =
+    test (isDoc rows d k) (λ t. rw t (a _ _ (climb-along g rows l a k) k)) (λ f. rw f (climb-along g rows l a k d))
 
 -- A question of yes or no that is lost to no: a yes comes from a row.
 pub climb-out : (ask : (ℕ → Bool) → ℕ → Bool) (rows : List Row) (k d : ℕ) → So (climb false ask rows k d) →
@@ -67,34 +80,104 @@ module _ (q : ℕ → Bool) (rows : List Row) where
 
 -- VISIBLE
 
+-- Whether row k is visible, when `up d` is whether document d is: "when it and every document above it are shown".
+abbrev pub visibleAsk : List Row → (ℕ → Bool) → ℕ → Bool
+visibleAsk rows up k = isShown rows k && (eqb (parentAt rows k) none || up (parentAt rows k))
+
+module _ (rows : List Row) where
+  -- Nobody hides row k: it is shown, and nobody hides what is above it.
+  nobody-asks : (up : ℕ → Hider) (up' : ℕ → Bool) → ((d : ℕ) → isNobody (up d) ≡ up' d) → (k : ℕ) → isNobody (hiderAsk rows up k) ≡ visibleAsk rows up' k
+  nobody-asks up up' h k =
+      test (isShown rows k)
+      (λ t. test (eqb (parentAt rows k) none) (λ e. rw (t, e) refl) (λ e. rw (t, e) (h (parentAt rows k))))
+      (λ f. rw f refl)
+
+  -- What is visible goes by yes or no alone, from row to row.
+  pub visible-is : (d : ℕ) → visible rows d ≡ climb false (visibleAsk rows) rows (length rows) d
+  unfolding visible hiderOf
+  visible-is d = climb-along isNobody rows refl nobody-asks (length rows) d
+
+  pub visible-at-is : (k : ℕ) → visibleAt rows k ≡ visibleAsk rows (climb false (visibleAsk rows) rows k) k
+  unfolding visibleAt hiderAt
+  visible-at-is k = nobody-asks (climb lost (hiderAsk rows) rows k) (climb false (visibleAsk rows) rows k) (climb-along isNobody rows refl nobody-asks k) k
+
 -- The two ways up: there is no parent, or an earlier row has it and passes.
 abbrev pub Up : List Row → (ℕ → Bool) → ℕ → Type 0
 Up rows g i = (parentAt rows i ≡ none) ⊎ ((j : ℕ) × (j < i) × So (g j) × (docAt rows j ≡ parentAt rows i))
 
 module _ (rows : List Row) where
   pub visible-in : {a b : ℕ} → TreeOf rows a b → (i : ℕ) → i < length rows → So (isShown rows i) → Up rows (visibleAt rows) i → So (visibleAt rows i)
-  unfolding visibleAt
   visible-in t i l s u =
-      simp and-eq-true-iff (
+      visible-at-is rows i ∙ simp and-eq-true-iff (
         s,
         ⊎-elim (λ e. or-left _ (eq-eqb _ _ e))
-            (λ r. or-right (eqb (parentAt rows i) none) (climb-is false (visibleAsk rows) rows t i (parentAt rows i) {j = r .0} (omega arith) (r .1) (r .3) ∙ r .2)) u,
+            (λ r. or-right (eqb (parentAt rows i) none)
+            (climb-is false (visibleAsk rows) rows t i (parentAt rows i) {j = r .0} (omega arith) (r .1) (r .3) ∙ sym (visible-at-is rows (r .0)) ∙ r .2)) u,
       )
 
   pub visible-out : (i : ℕ) → So (visibleAt rows i) → So (isShown rows i) × Up rows (visibleAt rows) i
-  unfolding visibleAt
   visible-out i v =
-      let t = simp and-eq-true-iff at v in (
+      let t = simp and-eq-true-iff at (sym (visible-at-is rows i) ∙ v) in (
         t .0,
         ⊎-elim (λ e. inl (eqb-true _ _ e))
-            (λ c. let r = climb-out (visibleAsk rows) rows i (parentAt rows i) c in inr (r .0, r .1, r .3, r .2))
+            (λ c. let r = climb-out (visibleAsk rows) rows i (parentAt rows i) c in inr (r .0, r .1, visible-at-is rows (r .0) ∙ r .3, r .2))
             (or-cases (eqb (parentAt rows i) none) _ (t .1)),
       )
 
   pub sees-in : {a b : ℕ} → TreeOf rows a b → {i : ℕ} (d : ℕ) → i < length rows → docAt rows i ≡ d → So (visibleAt rows i) → So (visible rows d)
-  unfolding visible visibleAt
-  sees-in t {i} d l e v = climb-is false (visibleAsk rows) rows t (length rows) d {j = i} (omega arith) l e ∙ v
+  sees-in t {i} d l e v = visible-is rows d ∙ climb-is false (visibleAsk rows) rows t (length rows) d {j = i} (omega arith) l e ∙ sym (visible-at-is rows i) ∙ v
 
   pub sees-out : (d : ℕ) → So (visible rows d) → (i : ℕ) × (i < length rows) × (docAt rows i ≡ d) × So (visibleAt rows i)
-  unfolding visible visibleAt
-  sees-out d s = climb-out (visibleAsk rows) rows (length rows) d s
+  sees-out d s =
+      let r = climb-out (visibleAsk rows) rows (length rows) d (sym (visible-is rows d) ∙ s) in (r .0, r .1, r .2, visible-at-is rows (r .0) ∙ r .3)
+
+-- WHO HIDES IT
+
+by-hider {ℓ} : {C : Type ℓ} (x : Hider) → (x ≡ Hider.nobody → C) → ((h : ℕ) → x ≡ Hider.document h → C) → C
+by-hider Hider.nobody a b = a refl
+by-hider (Hider.document h) a b = b h refl
+
+module _ (rows : List Row) where
+  -- What is visible nobody hides, and what is not some document does.
+  pub nobody-is : (d : ℕ) → (hiderOf rows d ≡ Hider.nobody) ↔ So (visible rows d)
+  unfolding visible
+  nobody-is d = (λ e. rw e refl, λ v. by-hider (hiderOf rows d) (λ e. e) (λ h e. absurd (false≢true (rw e at v))))
+
+  pub somebody-is : (d : ℕ) → visible rows d ≡ false → (h : ℕ) × (hiderOf rows d ≡ Hider.document h)
+  unfolding visible
+  somebody-is d f = by-hider (hiderOf rows d) (λ e. absurd (false≢true (sym f ∙ rw e refl))) (λ h e. (h, e))
+
+  -- A row that isn't shown hides itself; one that is and has no parent nobody hides.
+  pub hides-itself : (i : ℕ) → isShown rows i ≡ false → hiderAt rows i ≡ Hider.document (docAt rows i)
+  unfolding hiderAt
+  hides-itself i f = rw f refl
+
+  pub hides-nobody : (i : ℕ) → So (isShown rows i) → parentAt rows i ≡ none → hiderAt rows i ≡ Hider.nobody
+  unfolding hiderAt
+  hides-nobody i s e = rw (s, eq-eqb _ _ e) refl
+
+  -- Where a document has one row, what hides the row hides the document, and what hides the parent's row hides a row that is shown.
+  module _ (once : Once (length rows) (docAt rows)) where
+    pub hider-row : (d : ℕ) {i : ℕ} → i < length rows → docAt rows i ≡ d → hiderOf rows d ≡ hiderAt rows i
+    unfolding hiderOf hiderAt
+    hider-row d {i} l e = climb-once lost (hiderAsk rows) rows once (length rows) d {j = i} (omega arith) l e
+
+    pub hider-up : (i : ℕ) → i < length rows → So (isShown rows i) → (parentAt rows i ≡ none → ⊥) → {j : ℕ} → j < i → docAt rows j ≡ parentAt rows i →
+        hiderAt rows i ≡ hiderAt rows j
+    unfolding hiderAt
+    hider-up i l s p {j} m e = rw (s, ne-eqb _ _ p) (climb-once lost (hiderAsk rows) rows once i (parentAt rows i) {j = j} (omega arith) m e)
+
+    -- With parents in earlier rows the climb is never lost: a row is hidden by itself, by nobody, or by what hides its parent's row.
+    pub hider-cases {ℓ} : {C : Type ℓ} → S4 rows → (i : ℕ) → i < length rows →
+        (isShown rows i ≡ false → hiderAt rows i ≡ Hider.document (docAt rows i) → C) →
+        (So (isShown rows i) → hiderAt rows i ≡ Hider.nobody → C) →
+        (So (isShown rows i) → (parentAt rows i ≡ none → ⊥) → (j : ℕ) → j < i → docAt rows j ≡ parentAt rows i → hiderAt rows i ≡ hiderAt rows j → C) → C
+    hider-cases s4 i l itself nobody above =
+        test (isShown rows i)
+        (λ s.
+        test (eqb (parentAt rows i) none)
+        (λ e. nobody s (hides-nobody i s (eqb-true _ _ e)))
+        (λ f.
+        let p = eqb-false _ _ f in
+        ⊎-elim (λ e. absurd (p e)) (λ r. above s p (r .0) (r .1) (r .2) (hider-up i l s p {j = r .0} (r .1) (r .2))) (s4 .placed i l)))
+        (λ f. itself f (hides-itself i f))

@@ -11,13 +11,13 @@ use lib.Seq.{drop-cons}
 use borrow.Author.Tests.{eqb-true, eqb-false, eq-eqb, ne-eqb}
 use Rattle.rules.specs.Below.{sum, rising}
 use Rattle.rules.specs.Rows.{Row, Table, none, noRow, docAt, frameAt, parentAt, isShown, isFrame, climb}
-use Rattle.rules.specs.Steps.{same, visibleAsk, visibleAt}
+use Rattle.rules.specs.Steps.{same, visibleAt}
 use Rattle.rules.specs.Moves.{frames}
 use Rattle.rules.specs.Asks.{outlineFrame, outlineOf}
 use Rattle.rules.specs.Sound.{SoundTable}
 use Rattle.laws.proofs.Tests.{test, off, or-false, one-out}
 use Rattle.laws.proofs.Tree.{tree-of, distinct, proper}
-use Rattle.laws.proofs.Climb.{climb-none}
+use Rattle.laws.proofs.Climb.{climb-none, visibleAsk, visible-at-is}
 use Rattle.laws.proofs.Pieces.{sum-same}
 use Rattle.laws.specs.Outlines.{under}
 use Rattle.laws.specs.Outlines.{framesBelow, framesText, documentText}
@@ -208,8 +208,8 @@ module _ (w : ℕ → ℕ) (t : Table) (room : ℕ) (sound : SoundTable room t) 
   up m p = eqb p none || climb false (visibleAsk (t .rows)) (t .rows) m p
 
   up-suc : (m p : ℕ) → up (suc m) p ≡ (eqb p none || cond (eqb (docAt (t .rows) m) p) (visibleAt (t .rows) m) (climb false (visibleAsk (t .rows)) (t .rows) m p))
-  unfolding climb visibleAt
-  up-suc m p = refl
+  unfolding climb
+  up-suc m p = rw (visible-at-is (t .rows) m) refl
 
   -- One row more.
   grows : (m j x : ℕ) → m < length (t .rows) →
@@ -239,13 +239,14 @@ module _ (w : ℕ → ℕ) (t : Table) (room : ℕ) (sound : SoundTable room t) 
   -- The rows from m on whose parent is none or visible before m weigh what the visible rows from m on do.
   reaches : (k m : ℕ) → m + k ≡ length (t .rows) →
       after (λ j. cond (isShown (t .rows) j && up m (parentAt (t .rows) j)) (whole j) 0) m k ≡ after (λ j. cond (visibleAt (t .rows) j) (w (docAt (t .rows) j)) 0) m k
-  unfolding after visibleAt
+  unfolding after
   reaches zero m e = refl
   reaches (suc k) m e =
+      let here = ap (λ b. cond b (whole m) 0) (visible-at-is (t .rows) m) in
       let ih = reaches k (suc m) (omega arith) in
       let s = spread (visibleAt (t .rows) m) k m (omega arith) in
       let g = after-add _ _ _ k (suc m) (λ j a b. grows m j (whole j) (omega arith)) in
-      omega (arith, ih, s, g)
+      omega (arith, here, ih, s, g)
 
   pub outline-weighs : weigh w (outlineOf t) ≡ sum (λ j. cond (visibleAt (t .rows) j) (w (docAt (t .rows) j)) 0) (length (t .rows))
   unfolding climb

@@ -30,10 +30,17 @@ pub record Tree (n : ℕ) (doc frame parent : ℕ → ℕ) (nextDoc nextFrame : 
 abbrev pub TreeOf : List Row → ℕ → ℕ → Type 0
 TreeOf rows = Tree (length rows) (docAt rows) (frameAt rows) (parentAt rows)
 
+-- No document stands in two rows.
+abbrev pub Once : ℕ → (ℕ → ℕ) → Type 0
+Once n doc = (i j : ℕ) → i < n → j < n → doc i ≡ doc j → i ≡ j
+
+once : (n : ℕ) (doc : ℕ → ℕ) → ((i j : ℕ) → i < j → j < n → doc i < doc j) → Once n doc
+once n doc rise i j k l e = by-order i j (λ m. absurd (omega (arith, rise i j m l))) (λ q. q) (λ m. absurd (omega (arith, rise j i m k)))
+
 module _ {n : ℕ} {doc frame parent : ℕ → ℕ} {a b : ℕ} (t : Tree n doc frame parent a b) where
-  -- No document stands in two rows, and none is no document.
-  pub distinct : (i j : ℕ) → i < n → j < n → doc i ≡ doc j → i ≡ j
-  distinct i j k l e = by-order i j (λ m. absurd (omega (arith, t .rising i j m l))) (λ q. q) (λ m. absurd (omega (arith, t .rising j i m k)))
+  -- So it is in a tree, and none is no document.
+  pub distinct : Once n doc
+  distinct = once n doc (t .rising)
 
   pub proper : (i : ℕ) → i < n → doc i ≡ none → ⊥
   proper i l e = let c = t .below i l in let d = t .word in omega arith
@@ -63,6 +70,10 @@ pub rising-all : (n : ℕ) (doc : ℕ → ℕ) → ((i : ℕ) → suc i < n → 
 rising-all n doc h zero i l m = absurd (not-suc-le-zero l)
 rising-all n doc h (suc j) i l m =
     ⊎-elim (λ e. rw e (h j m)) (λ k. omega (arith, rising-all n doc h j i k (omega arith), h j m)) (below-cases l)
+
+-- Of words of any size.
+pub once-of : {room : ℕ} {t : Table} → SoundTable room t → Once (length (t .rows)) (docAt (t .rows))
+once-of {t = t} s = once (length (t .rows)) (docAt (t .rows)) (λ i j. rising-all (length (t .rows)) (docAt (t .rows)) (s .s2 .rise) j i)
 
 pub tree-of : {room : ℕ} {t : Table} → SoundTable room t → t .nextDoc ≤ none → TreeOf (t .rows) (t .nextDoc) (t .nextFrame)
 tree-of {t = t} s w =

@@ -5,7 +5,7 @@ use lib.IntN.{pos, negsuc}
 use Rattle.rules.specs.Below.{allBelow}
 use Rattle.lines.specs.Decimal.{decimalBy, decimal, decimal?, spelled, upTo, numeral}
 use Rattle.lines.specs.Lines.{Command, starts?, going, otherWord, worded, parse}
-use Rattle.lines.specs.Reply.{Said, statusText, answerText}
+use Rattle.lines.specs.Reply.{Said, statusText, deniedText, answerText}
 
 -- `open 0`
 pub open-root : parse (111 ∷ 112 ∷ 101 ∷ 110 ∷ 32 ∷ 48 ∷ []) ≡ Command.opens 0
@@ -88,9 +88,14 @@ unfolding answerText statusText decimal decimalBy
 ok-one = refl
 
 -- `no 4 2/2`
-pub no-four : answerText (Said.denied 4 2 2) ≡ 110 ∷ 111 ∷ 32 ∷ 52 ∷ 32 ∷ 50 ∷ 47 ∷ 50 ∷ 10 ∷ []
-unfolding answerText statusText decimal decimalBy
+pub no-four : answerText (Said.denied 4 [] 2 2) ≡ 110 ∷ 111 ∷ 32 ∷ 52 ∷ 32 ∷ 50 ∷ 47 ∷ 50 ∷ 10 ∷ []
+unfolding answerText deniedText statusText decimal decimalBy
 no-four = refl
+
+-- `no 5 at 12 2/3`
+pub no-five : answerText (Said.denied 5 (12 ∷ []) 2 3) ≡ 110 ∷ 111 ∷ 32 ∷ 53 ∷ 32 ∷ 97 ∷ 116 ∷ 32 ∷ 49 ∷ 50 ∷ 32 ∷ 50 ∷ 47 ∷ 51 ∷ 10 ∷ []
+unfolding answerText deniedText statusText decimal decimalBy
+no-five = refl
 
 -- `ok 512 10/99`
 pub ok-many : answerText (Said.ok 512 10 99) ≡ 111 ∷ 107 ∷ 32 ∷ 53 ∷ 49 ∷ 50 ∷ 32 ∷ 49 ∷ 48 ∷ 47 ∷ 57 ∷ 57 ∷ 10 ∷ []

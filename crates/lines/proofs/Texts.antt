@@ -10,7 +10,7 @@ use Rattle.laws.proofs.Tests.{by-lt}
 use Rattle.laws.specs.Writes.{Wrote}
 use Rattle.laws.proofs.Writes.{wrote-length, wrote-then, room-then}
 use Rattle.lines.specs.Decimal.{decimalBy, decimal}
-use Rattle.lines.specs.Reply.{statusText}
+use Rattle.lines.specs.Reply.{statusText, deniedText}
 
 -- DECIMALS
 
@@ -119,6 +119,49 @@ module _ (old : List ℕ) (at a b n p s : ℕ) (room : at + length (statusText a
               (wrote-then m2 m3 m5 (32 ∷ decimal p) third k2 k3 k5 w3
               (wrote-then m3 m4 m5 (47 ∷ decimal s) last k3 k4 k5 w4 w5)))
 
+-- A REFUSAL THAT CARRIES A DOCUMENT: `no`, a number, a blank, and a status line.
+
+module _ (old : List ℕ) (at k d p s : ℕ) (room : at + length (deniedText k (d ∷ []) p s) ≤ length old) where
+  abbrev status : List ℕ
+  status = statusText 97 116 d p s
+
+  abbrev blank : List ℕ
+  blank = (32 ∷ []) ++ status
+
+  abbrev number : List ℕ
+  number = (32 ∷ decimal k) ++ blank
+
+  whole : at + length ((110 ∷ 111 ∷ []) ++ number) ≤ length old
+  unfolding deniedText
+  whole = room
+
+  pub room-no : at + 2 ≤ length old
+  room-no = front-room at (length old) (110 ∷ 111 ∷ []) number whole
+
+  module _ (m1 : List ℕ) (k1 : ℕ) (w1 : Wrote old at (110 ∷ 111 ∷ []) m1 k1) where
+    after-no : k1 + length number ≤ length m1
+    after-no = room-then old m1 (110 ∷ 111 ∷ []) number at k1 whole w1
+
+    pub room-number : k1 + length (32 ∷ decimal k) ≤ length m1
+    room-number = front-room k1 (length m1) (32 ∷ decimal k) blank after-no
+
+    module _ (m2 : List ℕ) (k2 : ℕ) (w2 : Wrote m1 k1 (32 ∷ decimal k) m2 k2) where
+      after-number : k2 + length blank ≤ length m2
+      after-number = room-then m1 m2 (32 ∷ decimal k) blank k1 k2 after-no w2
+
+      pub room-blank : k2 < length m2
+      room-blank = omega (arith, front-room k2 (length m2) (32 ∷ []) status after-number)
+
+      module _ (m3 : List ℕ) (k3 : ℕ) (w3 : Wrote m2 k2 (32 ∷ []) m3 k3) where
+        pub room-status : k3 + length (statusText 97 116 d p s) ≤ length m3
+        room-status = room-then m2 m3 (32 ∷ []) status k2 k3 after-number w3
+
+        pub wrote-hidden : (m4 : List ℕ) (k4 : ℕ) → Wrote m3 k3 (statusText 97 116 d p s) m4 k4 → Wrote old at (deniedText k (d ∷ []) p s) m4 k4
+        unfolding deniedText
+        wrote-hidden m4 k4 w4 =
+            wrote-then old m1 m4 (110 ∷ 111 ∷ []) number at k1 k4 w1
+            (wrote-then m1 m2 m4 (32 ∷ decimal k) blank k1 k2 k4 w2 (wrote-then m2 m3 m4 (32 ∷ []) status k2 k3 k4 w3 w4))
+
 -- HOW LONG
 
 -- 10 to the k.
@@ -136,11 +179,14 @@ decimal-within (suc k) n l =
     let h = decimal-within k (n / 10) (omega arith) in
     omega (arith, ap length (decimal-more n a) ∙ length-append (decimal (n / 10)) ((48 + n % 10) ∷ [])))
 
--- A status line of three numbers of 64 bits has at most 66 bytes: "enough room" for any answer.
-pub status-within : (a b n p s : ℕ) → n < tens 20 → p < tens 20 → s < tens 20 → length (statusText a b n p s) ≤ 66
+-- A status line whose last two numbers are of 64 bits, by the digits of its first.
+pub status-about : (a b n p s : ℕ) → p < tens 20 → s < tens 20 → length (statusText a b n p s) ≤ 46 + length (decimal n)
 unfolding statusText
-status-within a b n p s x y z =
-    let i = decimal-within 19 n x in
+status-about a b n p s y z =
     let j = decimal-within 19 p y in
     let k = decimal-within 19 s z in
     simp length-append (omega arith)
+
+-- A status line of three numbers of 64 bits has at most 66 bytes: "enough room" for any answer.
+pub status-within : (a b n p s : ℕ) → n < tens 20 → p < tens 20 → s < tens 20 → length (statusText a b n p s) ≤ 66
+status-within a b n p s x y z = omega (arith, status-about a b n p s y z, decimal-within 19 n x)

@@ -1,4 +1,5 @@
 // One line of a script: what it asks, and the text of the line that answers it.
+use base::Carried;
 use base::DocNo;
 use base::FrameNo;
 use base::Refusal;
@@ -10,7 +11,8 @@ ghost use lib.ListN.{length};
 ghost use Rattle.lines.specs.Decimal.{decimal, digit?, leadingZero?, digits?, decimal?, spelled as spelledBy, upTo, numeral as numeralOf};
 ghost use Rattle.lines.specs.Lines.{starts? as startsWith, minus?, opening as openingOf, navigating as navigatingOf, dropping as droppingOf, forth as forthOf, back as backOf, going as goingOf, otherWord, worded as wordedOf, parse as parseOf, commandIs};
 ghost use Rattle.laws.specs.Writes.{Wrote};
-ghost use Rattle.lines.specs.Reply.{replyIs, statusText, answerText};
+ghost use Rattle.base.specs.Numbers.{numberOf, carriedBy};
+ghost use Rattle.lines.specs.Reply.{replyIs, statusText, deniedText, answerText};
 ghost use Rattle.lines.specs.Bounds.{Most};
 
 // What a line asks.
@@ -318,6 +320,29 @@ fn put_status(
     put_byte(out, l, 10)
 }
 
+// Writes a refusal that carries a document: `no K at D`, position/steps, and the newline.
+fn put_hidden(out: &mut [u8], at: usize, k: usize, d: DocNo, position: usize, steps: usize) -> usize
+    requires { ⌜ at + length (deniedText k (d .0 ∷ []) position steps) ≤ length (now out) ⌝ }
+    ensures { λ r. ⌜ Wrote (now (out .entry)) at (deniedText k (d .0 ∷ []) position steps) (now (out .exit)) r ⌝ }
+{
+    let i = put_letters(out, at, b'n', b'o');
+    let j = put_number(out, i, b' ', k);
+    let l = put_byte(out, j, b' ');
+    put_status(out, l, b'a', b't', d.0 as usize, position, steps)
+}
+
+// Writes a refusal with what it carries, position/steps, and the newline.
+fn put_refusal(out: &mut [u8], at: usize, why: Refusal, position: usize, steps: usize) -> usize
+    requires { ⌜ at + length (deniedText (numberOf why) (carriedBy why) position steps) ≤ length (now out) ⌝ }
+    ensures { λ r. ⌜ Wrote (now (out .entry)) at (deniedText (numberOf why) (carriedBy why) position steps) (now (out .exit)) r ⌝ }
+{
+    let k = base::refusal_number(why) as usize;
+    match base::refusal_carries(why) {
+        Carried::Nothing => put_status(out, at, b'n', b'o', k, position, steps),
+        Carried::Document(d) => put_hidden(out, at, k, d, position, steps),
+    }
+}
+
 // Writes `bad` and the newline.
 fn put_bad(out: &mut [u8], at: usize) -> usize
     requires { ⌜ at + 4 ≤ length (now out) ⌝ }
@@ -337,10 +362,7 @@ pub fn put_answer(out: &mut [u8], at: usize, reply: Reply) -> usize
 {
     match reply {
         Reply::Ok(v, p, s) => put_status(out, at, b'o', b'k', v, p, s),
-        Reply::No(r, p, s) => {
-            let k = base::refusal_number(r) as usize;
-            put_status(out, at, b'n', b'o', k, p, s)
-        }
+        Reply::No(r, p, s) => put_refusal(out, at, r, p, s),
         Reply::Bad => put_bad(out, at),
     }
 }

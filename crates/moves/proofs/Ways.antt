@@ -25,7 +25,7 @@ use Rattle.moves.specs.Answers.{roomRungs}
 
 -- FRESH
 
-pub fresh-short : (words : List ℕ) → length words < 7 → outcome (Call.Fresh words) ≡ record { answer = Answer.refuses 1; lent = words ∷ [] }
+pub fresh-short : (words : List ℕ) → length words < 7 → outcome (Call.Fresh words) ≡ record { answer = Answer.refuses 1 []; lent = words ∷ [] }
 unfolding outcome refusals accepted ladder
 fresh-short words l = rw (lt-ltb _ _ l) refl
 
@@ -48,7 +48,7 @@ fresh-done words a b new c l e p q r = rw (le-ltb _ _ l, fresh-words words a b n
 module _ (words : List ℕ) (c n : ℕ) (room : c ≡ capacity words) (used : n ≡ length (rowsOf words)) where
   pub room-full : c ≤ n → Settles (roomRungs words) (No Full)
   unfolding Given
-  room-full l = inl (le-leb (capacity words) (length (rowsOf words)) (omega arith), refl)
+  room-full l = inl (le-leb (capacity words) (length (rowsOf words)) (omega arith), refl, refl)
 
   module _ (l : n < c) (d : ℕ) (next : d ≡ tableOf words .nextDoc) where
     left : full words (rowsOf words) ≡ false
@@ -56,7 +56,7 @@ module _ (words : List ℕ) (c n : ℕ) (room : c ≡ capacity words) (used : n 
 
     pub no-document : d ≡ none → Settles (roomRungs words) (No UsedUp)
     unfolding Given
-    no-document z = inr (left, inl (rw (eq-eqb _ _ (sym next ∙ z)) refl, refl))
+    no-document z = inr (left, inl (rw (eq-eqb _ _ (sym next ∙ z)) refl, refl, refl))
 
     module _ (some : d ≡ none → ⊥) (f : ℕ) (following : f ≡ tableOf words .nextFrame) where
       unused : eqb (tableOf words .nextDoc) none ≡ false
@@ -64,7 +64,7 @@ module _ (words : List ℕ) (c n : ℕ) (room : c ≡ capacity words) (used : n 
 
       pub no-frame : f ≡ none → Settles (roomRungs words) (No UsedUp)
       unfolding Given
-      no-frame z = inr (left, inl (rw (unused, eq-eqb _ _ (sym following ∙ z)) refl, refl))
+      no-frame z = inr (left, inl (rw (unused, eq-eqb _ _ (sym following ∙ z)) refl, refl, refl))
 
       pub room-left : (f ≡ none → ⊥) → Settles (roomRungs words) Sound
       unfolding NoneGiven

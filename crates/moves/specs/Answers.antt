@@ -2,7 +2,7 @@
 use Prim.Native.Nat.{ℕ}
 use mathlib.Core.Bool.{_||_}
 use mathlib.Core.List.{List, [], _∷_}
-use Rattle.base.specs.Numbers.{numberOf}
+use Rattle.base.specs.Numbers.{numberOf, carriedBy}
 use Rattle.rules.specs.Words.{tableOf, rowsOf}
 use Rattle.rules.specs.Calls.{Answer, Rung, _when_, full, usedUp}
 use Rattle.moves.specs.declared.Freshened.{Freshened}
@@ -12,11 +12,11 @@ use Rattle.moves.specs.declared.Opened.the-variants as Opens
 
 abbrev pub freshIs : Freshened → Answer
 freshIs Freshens.Done = Answer.gives []
-freshIs (Freshens.Refused r) = Answer.refuses (numberOf r)
+freshIs (Freshens.Refused r) = Answer.refuses (numberOf r) (carriedBy r)
 
 abbrev pub openedIs : Opened → Answer
 openedIs (Opens.Numbers d f) = Answer.gives (d .0 ∷ f .0 ∷ [])
-openedIs (Opens.Refused r) = Answer.refuses (numberOf r)
+openedIs (Opens.Refused r) = Answer.refuses (numberOf r) (carriedBy r)
 
 -- The end of Open's table.
 abbrev pub roomRungs : List ℕ → List Rung

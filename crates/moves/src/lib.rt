@@ -62,7 +62,7 @@ fn may_open(words: &[u32], parent: DocNo) -> Check
 {
     match asks::seen(words, parent) {
         Sight::Refused(r) => Check::No(r),
-        Sight::Hidden => Check::No(Refusal::Hidden),
+        Sight::Hidden(h) => Check::No(Refusal::Hidden(h)),
         Sight::Visible => judge_room(words),
     }
 }

@@ -10,7 +10,7 @@ use lib.ListN.{length}
 use borrow.Author.Tests.{eqb-true, eqb-false, eq-eqb, ne-eqb, leb-true, le-leb, lt-leb}
 use Rattle.base.specs.declared.Refusal.{Refusal}
 use Rattle.base.specs.declared.Refusal.the-variants.{Full, UsedUp}
-use Rattle.base.specs.Numbers.{numberOf}
+use Rattle.base.specs.Numbers.{numberOf, carriedBy}
 use Rattle.rules.specs.Below.{someBelow, count}
 use Rattle.rules.specs.Rows.{Row, none}
 use Rattle.rules.specs.Steps.{isStep, reached, taken, upcoming, position, steps}
@@ -94,11 +94,11 @@ full-counted words n c p s en ec fits l ep es = let e : eqb n c ≡ true = eq-eq
 module _ (words : List ℕ) (b : Bool) (e : b ≡ full words (cleared (rowsOf words))) where
   pub room-full : b ≡ true → Settles (roomRungs words) (No Full)
   unfolding Given
-  room-full t = inl (sym e ∙ t, refl)
+  room-full t = inl (sym e ∙ t, refl, refl)
 
   pub room-used : (d : ℕ) → b ≡ false → d ≡ tableOf words .nextDoc → d ≡ none → Settles (roomRungs words) (No UsedUp)
   unfolding Given
-  room-used d f h n = inr (sym e ∙ f, inl (eq-eqb _ _ (sym h ∙ n), refl))
+  room-used d f h n = inr (sym e ∙ f, inl (eq-eqb _ _ (sym h ∙ n), refl, refl))
 
   pub room-left : (d : ℕ) → b ≡ false → d ≡ tableOf words .nextDoc → (d ≡ none → ⊥) → Settles (roomRungs words) Sound
   unfolding NoneGiven
@@ -106,9 +106,9 @@ module _ (words : List ℕ) (b : Bool) (e : b ≡ full words (cleared (rowsOf wo
 
 -- THE OUTCOME
 
-pub navigate-refused : (words : List ℕ) (d : ℕ) (k : Survey) (r : Refusal) → k ≡ surveyOf words → k ≡ Survey·No r → outcome (Call.Navigate words d) ≡ record { answer = Answer.refuses (numberOf r); lent = words ∷ [] }
+pub navigate-refused : (words : List ℕ) (d : ℕ) (k : Survey) (r : Refusal) → k ≡ surveyOf words → k ≡ Survey·No r → outcome (Call.Navigate words d) ≡ record { answer = Answer.refuses (numberOf r) (carriedBy r); lent = words ∷ [] }
 unfolding refusals
-navigate-refused words d k r e f = outcome-refused (Call.Navigate words d) (numberOf r) (survey-given words _ k r e f)
+navigate-refused words d k r e f = outcome-refused (Call.Navigate words d) (numberOf r) (carriedBy r) (survey-given words _ k r e f)
 
 pub navigate-given : (words : List ℕ) (d : ℕ) → NoneGiven (refusals (Call.Navigate words d)) → (e : ℕ) (left : List ℕ) → e ≡ tableOf words .nextDoc → left ≡ written words (navigated (tableOf words) d) →
     outcome (Call.Navigate words d) ≡ record { answer = Answer.gives (e ∷ []); lent = left ∷ [] }

@@ -58,7 +58,7 @@ fn judge(words: &[u32], s: Stand, from: DocNo) -> Check
 {
     match asks::seen(words, from) {
         Sight::Refused(r) => Check::No(r),
-        Sight::Hidden => Check::No(Refusal::Hidden),
+        Sight::Hidden(h) => Check::No(Refusal::Hidden(h)),
         Sight::Visible => judge_room(words, s),
     }
 }

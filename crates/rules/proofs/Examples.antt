@@ -1,4 +1,4 @@
--- Document 01, "Examples": P1 to P12 and the small ones, and what Drop does, each as a row of a table, and one statement over each table, by computation.
+-- Document 01, "Examples": P1 to P12 and the small ones, and those of document 02, each as a row of a table, and one statement over each table, by computation.
 -- The case `hiddenFuture` is 001's counterexample 2; counterexample 5 stands in `demands`, at `own-future-not-enough`. Assumes nothing.
 use Prim.Native.Nat.{ℕ, _+_, _-_, _*_, _≤_}
 use native.Mathlib.Nat.{zero-add}
@@ -12,7 +12,7 @@ use lib.ListN.{length, getD, drop, replicate}
 use lib.Seq.{sets-eq}
 use Rattle.rules.specs.Below.{someBelow, allBelow, count, earliest, latest, sum, tab, gather}
 use Rattle.rules.specs.Rows.{none, docAt, isShown, inRecord, place, isFrame, flag, withFlags, climb}
-use Rattle.rules.specs.Steps.{step, reach, position, steps, visible}
+use Rattle.rules.specs.Steps.{step, reach, position, steps, hiderOf, visible}
 use Rattle.rules.specs.Moves.{opened, gone, without, hide, navigated, show, forward, backTarget, rowBefore, back, walked, shownDoc, changeRow, changes}
 use Rattle.rules.specs.Words.{put, tableOf, rowsOf, wordsOf, written}
 use Rattle.rules.specs.Sound.{soundTable?, sound?}
@@ -57,7 +57,7 @@ changedBy words (m ∷ []) = getD (outcome (on words m) .lent) 1 []
 changedBy words (m ∷ n ∷ moves) = changedBy (after words m) (n ∷ moves)
 
 abbrev yes? : Answer → Bool
-yes? (Answer.refuses k) = false
+yes? (Answer.refuses k carried) = false
 yes? (Answer.gives []) = false
 yes? (Answer.gives (v ∷ vs)) = eqb v 1
 
@@ -89,7 +89,11 @@ abbrev backBy : ℕ → Move
 backBy k = Move.goes (negℤ (pos k)) room
 
 abbrev no : ℕ → Answer
-no k = Answer.refuses k
+no k = Answer.refuses k []
+
+-- "Refusal 5 [..] carries that number too"
+abbrev no5 : ℕ → Answer
+no5 d = Answer.refuses 5 (d ∷ [])
 
 abbrev ok : ℕ → Answer
 ok v = Answer.gives (v ∷ [])
@@ -202,7 +206,7 @@ p7 =
 
 -- "P8. Navigate X from 2: refused 5; from 9: refused 4."
 abbrev p8 : Case
-p8 = record { start = X; moves = Move.navigates 2 ∷ Move.navigates 9 ∷ []; expected = asX (no 5 ∷ no 4 ∷ []) [] }
+p8 = record { start = X; moves = Move.navigates 2 ∷ Move.navigates 9 ∷ []; expected = asX (no5 2 ∷ no 4 ∷ []) [] }
 
 -- "P9. [..] refused 2 (S7)."
 abbrev p9 : Case
@@ -320,7 +324,7 @@ abbrev pub table : List Case
 table = p1 ∷ p2 ∷ p3 ∷ p4 ∷ p5 ∷ p6 ∷ p7 ∷ p8 ∷ p9 ∷ p10 ∷ p11 ∷ p11b ∷ p12 ∷ p12b ∷ hiddenFuture ∷ []
 
 pub examples-hold : map seen table ≡ map (λ c. c .expected) table
-unfolding someBelow allBelow count earliest latest tab gather inRecord place isFrame withFlags climb step reach position steps visible
+unfolding someBelow allBelow count earliest latest tab gather inRecord place isFrame withFlags climb step reach position steps hiderOf visible
     opened gone without hide navigated show forward backTarget rowBefore back walked shownDoc changeRow changes
     put tableOf wordsOf written soundTable? sound? refusals accepted ladder outcome run flatMap
 examples-hold = refl
@@ -345,7 +349,7 @@ drops =
     -- The root frame, and frames that are in no row, though 4 is a document: X stays.
     ∷ record { start = X; moves = Move.drops 0 ∷ Move.drops 9 ∷ Move.drops 4 ∷ []; expected = asX (no 10 ∷ no 4 ∷ no 4 ∷ []) [] }
     -- X by +1: 5 is shown in frame 1, so the parent of frame 2, document 1, is hidden.
-    ∷ case X (forwardBy 1 ∷ Move.drops 2 ∷ []) (ok 1 ∷ no 5 ∷ []) (at 2 2) (0 ∷ 1 ∷ 2 ∷ 3 ∷ 4 ∷ 5 ∷ []) (0 ∷ 3 ∷ 4 ∷ 5 ∷ []) (0 ∷ 3 ∷ 5 ∷ [])
+    ∷ case X (forwardBy 1 ∷ Move.drops 2 ∷ []) (ok 1 ∷ no5 1 ∷ []) (at 2 2) (0 ∷ 1 ∷ 2 ∷ 3 ∷ 4 ∷ 5 ∷ []) (0 ∷ 3 ∷ 4 ∷ 5 ∷ []) (0 ∷ 3 ∷ 5 ∷ [])
     -- X by +1 without frame 1: hidden rows go too, and the position falls by steps 5 and 4, though 4 is not visible.
     ∷ case X (forwardBy 1 ∷ Move.drops 1 ∷ []) (ok 1 ∷ ok 4 ∷ []) (at 0 0) (0 ∷ 3 ∷ []) (0 ∷ 3 ∷ []) (0 ∷ 3 ∷ [])
     -- X by -1 without frame 2: its step is upcoming, so the position stays.
@@ -360,11 +364,11 @@ drops =
     (Answer.gives (1 ∷ 1 ∷ []) ∷ no 7 ∷ ok 1 ∷ Answer.gives (2 ∷ 2 ∷ []) ∷ []) (at 0 0) (0 ∷ 2 ∷ []) (0 ∷ 2 ∷ []) (0 ∷ 2 ∷ [])
     -- Document 2 gave way to 0. The parent of frame 3, document 3 beneath 2, is shown and not visible; that of frame 2 is document 2.
     ∷ case (fresh 8) (Move.opens 0 ∷ Move.navigates 0 ∷ Move.opens 2 ∷ Move.opens 3 ∷ backBy 1 ∷ Move.drops 3 ∷ Move.drops 2 ∷ Move.drops 1 ∷ [])
-    (Answer.gives (1 ∷ 1 ∷ []) ∷ ok 2 ∷ Answer.gives (3 ∷ 2 ∷ []) ∷ Answer.gives (4 ∷ 3 ∷ []) ∷ ok 1 ∷ no 5 ∷ no 5 ∷ ok 1 ∷ []) (at 0 1) (0 ∷ 2 ∷ 3 ∷ 4 ∷ []) (0 ∷ 3 ∷ 4 ∷ []) (0 ∷ [])
+    (Answer.gives (1 ∷ 1 ∷ []) ∷ ok 2 ∷ Answer.gives (3 ∷ 2 ∷ []) ∷ Answer.gives (4 ∷ 3 ∷ []) ∷ ok 1 ∷ no5 2 ∷ no5 2 ∷ ok 1 ∷ []) (at 0 1) (0 ∷ 2 ∷ 3 ∷ 4 ∷ []) (0 ∷ 3 ∷ 4 ∷ []) (0 ∷ [])
     ∷ []
 
 pub drops-hold : map seen drops ≡ map (λ c. c .expected) drops
-unfolding someBelow allBelow count earliest latest tab gather inRecord place isFrame withFlags climb step reach position steps visible
+unfolding someBelow allBelow count earliest latest tab gather inRecord place isFrame withFlags climb step reach position steps hiderOf visible
     opened gone without hide navigated show forward backTarget rowBefore back walked shownDoc changeRow changes parentOf
     put tableOf wordsOf written soundTable? sound? refusals accepted ladder outcome run flatMap
 drops-hold = refl
@@ -408,6 +412,17 @@ left = holding 2 (row 0 0 none 0 ∷ row 1 0 none 1 ∷ []) 2 1
 -- Frame 0 lies in the document of frame 1; the table is full, and all numbers are used.
 abbrev swapped : List ℕ
 swapped = holding 2 (row 0 1 none 1 ∷ row 1 0 0 1 ∷ []) none none
+
+-- 1 and 3 of frame 1 lie in document 0, 2 in 1, 5 in 2. Of 0 and 4 the latter is shown, of 1 and 3 too: 2 and 5 are shown, and hidden by 1.
+abbrev nested : List ℕ
+nested = holding 6 (row 0 0 none 0 ∷ row 1 1 0 0 ∷ row 2 2 1 1 ∷ row 3 1 0 1 ∷ row 4 0 none 1 ∷ row 5 3 2 1 ∷ []) 6 4
+
+-- Visible says yes, and that nobody hides it; no, and who does.
+abbrev seesIt : Answer
+seesIt = Answer.gives (1 ∷ none ∷ [])
+
+abbrev hid : ℕ → Answer
+hid d = Answer.gives (0 ∷ d ∷ [])
 
 -- A record that Position refuses as unsound.
 abbrev unsound : List ℕ → Small
@@ -460,7 +475,7 @@ smalls =
     -- isn't visible": 10 comes after 4 and before 5.
     ∷ small (Call.Drop left 1) (no 4) (left ∷ [])
     ∷ small (Call.Drop left 0) (no 10) (left ∷ [])
-    ∷ small (Call.Drop underHidden 2) (no 5) (underHidden ∷ [])
+    ∷ small (Call.Drop underHidden 2) (no5 1) (underHidden ∷ [])
     -- The root frame is the one without a parent, whatever its number. No next number and no row more is needed.
     ∷ small (Call.Drop swapped 1) (no 10) (swapped ∷ [])
     ∷ small (Call.Drop swapped 0) (ok 1) (holding 2 (row 0 1 none 1 ∷ []) none none ∷ [])
@@ -492,9 +507,21 @@ smalls =
     ∷ unsound (fresh 1 ++ 0 ∷ 0 ∷ 0 ∷ 7 ∷ [])
     -- "document not in the record"; "document there, not visible"
     ∷ small (Call.Visible X 9) (no 4) []
-    ∷ small (Call.Visible X 2) (ok 0) []
     ∷ small (Call.Open X 9) (no 4) (X ∷ [])
-    ∷ small (Call.Open X 2) (no 5) (X ∷ [])
+    ∷ small (Call.Open X 2) (no5 2) (X ∷ [])
+    -- "either that the document is visible or the number of the nearest document, itself first and then upwards, that isn't shown"
+    ∷ small (Call.Visible X 4) seesIt []
+    ∷ small (Call.Visible X 2) (hid 2) []
+    ∷ small (Call.Visible nested 0) (hid 0) []
+    ∷ small (Call.Visible nested 1) (hid 1) []
+    ∷ small (Call.Visible nested 2) (hid 1) []
+    ∷ small (Call.Visible nested 3) (hid 0) []
+    ∷ small (Call.Visible nested 4) seesIt []
+    -- "Refusal 5 of opening, navigating and removal carries that number too (for removal, that of the parent's climb)": frame 3 lies in document 2.
+    ∷ small (Call.Open nested 2) (no5 1) (nested ∷ [])
+    ∷ small (Call.Navigate nested 3) (no5 0) (nested ∷ [])
+    ∷ small (Call.Drop nested 3) (no5 1) (nested ∷ [])
+    ∷ small (Call.Drop nested 1) (no5 0) (nested ∷ [])
     -- "no row left (Navigate: after removal; Load: n above C)"
     ∷ small (Call.Load (replicate 26 7) bytesOfX) (no 7) (replicate 26 7 ∷ [])
     -- "next document number, or for Open the next frame number, is 4294967295"
@@ -510,7 +537,7 @@ smalls =
     ∷ []
 
 pub smalls-hold : map (λ s. outcome (s .call)) smalls ≡ map (λ s. s .expected) smalls
-unfolding someBelow allBelow count earliest latest sum tab gather inRecord place isFrame withFlags climb step reach position steps visible
+unfolding someBelow allBelow count earliest latest sum tab gather inRecord place isFrame withFlags climb step reach position steps hiderOf visible
     gone without hide navigated show forward backTarget rowBefore back walked shownDoc changeRow changes
     put tableOf wordsOf written soundTable? sound? takenList upcomingList stretched outlineFrame outlineOf
     number docsOf shownPlace parentOf contents body saved toldRow toldRows loaded fromSave? refusals accepted ladder outcome flatMap

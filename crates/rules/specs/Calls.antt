@@ -8,7 +8,7 @@ use lib.Dec.{eqb, leb, ltb}
 use lib.IntN.{ℤ, pos, negsuc, _+ℤ_, natAbs}
 use lib.ListN.{length}
 use Rattle.rules.specs.Rows.{Row, none, inRecord, isFrame, flag}
-use Rattle.rules.specs.Steps.{position, steps, scriptLength, visible}
+use Rattle.rules.specs.Steps.{position, steps, scriptLength, visible, hiderOf, hiderNumber}
 use Rattle.rules.specs.Moves.{freshTable, opened, cleared, navigated, traversed, dropped, changes}
 use Rattle.rules.specs.Words.{put, capacity, tableOf, rowsOf, written}
 use Rattle.rules.specs.Sound.{sound?}
@@ -31,9 +31,9 @@ pub data Call : Type 0 where
   Save : (words : List ℕ) (room : List ℕ) → Call
   Load : (words : List ℕ) (bytes : List ℕ) → Call
 
--- An answer is a refusal's number alone, or the values that document 01 names, in its order; yes is 1 and no is 0.
+-- An answer is a refusal's number with what it carries, or the values that document 01 names, in its order; yes is 1 and no is 0.
 pub data Answer : Type 0 where
-  refuses : ℕ → Answer
+  refuses : (number : ℕ) (carried : List ℕ) → Answer
   gives : List ℕ → Answer
 
 -- What a call answers, and what the runs hold then that were lent to it to write in.
@@ -73,6 +73,10 @@ absent words d = not (inRecord (rowsOf words) d)
 abbrev pub hidden : List ℕ → ℕ → Bool
 hidden words d = not (visible (rowsOf words) d)
 
+-- "Refusal 5 of opening, navigating and removal carries that number too (for removal, that of the parent's climb)" (document 02, L4)
+abbrev pub hider : List ℕ → ℕ → ℕ
+hider words d = hiderNumber (hiderOf (rowsOf words) d)
+
 -- "position + δ below 0 or above steps"
 abbrev pub outside : ℕ → ℤ → Bool
 outside n (pos q) = ltb n q
@@ -100,30 +104,35 @@ noFrame words f = not (isFrame (rowsOf words) f)
 abbrev pub rootFrame : List ℕ → ℕ → Bool
 rootFrame words f = eqb (parentOf (rowsOf words) f) none
 
--- A number and when it is given, unless a line before it applies.
+-- A number, when it is given, unless a line before it applies, and what it carries then: nothing but for 5.
 pub record Rung : Type 0 where
   pub number : ℕ
   pub holds : Bool
+  pub carries : List ℕ
 
 infix 70 _when_
 abbrev pub _when_ : ℕ → Bool → Rung
-k when b = record { number = k; holds = b }
+k when b = record { number = k; holds = b; carries = [] }
+
+infix 69 _naming_
+abbrev pub _naming_ : Rung → ℕ → Rung
+r naming d = record { number = r .number; holds = r .holds; carries = d ∷ [] }
 
 -- The lines of each call in the order in which they are asked: that of their numbers but for "10 comes after 4 and before 5".
 unfoldable pub refusals : Call → List Rung
 refusals (Call.Fresh words) = 1 when short words ∷ []
 refusals (Call.Open words parent) =
-    1 when short words ∷ 2 when unsound words ∷ 4 when absent words parent ∷ 5 when hidden words parent
+    1 when short words ∷ 2 when unsound words ∷ 4 when absent words parent ∷ 5 when hidden words parent naming hider words parent
     ∷ 7 when full words (rowsOf words) ∷ 8 when (usedUp (tableOf words .nextDoc) || usedUp (tableOf words .nextFrame)) ∷ []
 refusals (Call.Navigate words from) =
-    1 when short words ∷ 2 when unsound words ∷ 4 when absent words from ∷ 5 when hidden words from
+    1 when short words ∷ 2 when unsound words ∷ 4 when absent words from ∷ 5 when hidden words from naming hider words from
     ∷ 7 when full words (cleared (rowsOf words)) ∷ 8 when usedUp (tableOf words .nextDoc) ∷ []
 refusals (Call.Traverse words δ room) =
     let cramped = tooShort room (changes (tableOf words) δ) in
     1 when short words ∷ 2 when unsound words ∷ 6 when beyond words δ ∷ 9 when cramped ∷ []
 refusals (Call.Drop words frame) =
     1 when short words ∷ 2 when unsound words ∷ 4 when noFrame words frame ∷ 10 when rootFrame words frame
-    ∷ 5 when hidden words (parentOf (rowsOf words) frame) ∷ []
+    ∷ 5 when hidden words (parentOf (rowsOf words) frame) naming hider words (parentOf (rowsOf words) frame) ∷ []
 refusals (Call.Position words) = 1 when short words ∷ 2 when unsound words ∷ []
 refusals (Call.Visible words d) = 1 when short words ∷ 2 when unsound words ∷ 4 when absent words d ∷ []
 refusals (Call.Lists words takens upcomings) =
@@ -150,7 +159,7 @@ accepted (Call.Traverse words δ room) =
 accepted (Call.Drop words frame) =
     (length (rowsOf words) - length (dropped (tableOf words) frame .rows)) ∷ [] leaving written words (dropped (tableOf words) frame) ∷ []
 accepted (Call.Position words) = position (rowsOf words) ∷ steps (rowsOf words) ∷ scriptLength (rowsOf words) ∷ [] leaving []
-accepted (Call.Visible words d) = flag (visible (rowsOf words) d) ∷ [] leaving []
+accepted (Call.Visible words d) = flag (visible (rowsOf words) d) ∷ hider words d ∷ [] leaving []
 accepted (Call.Lists words takens upcomings) =
     length (takenList (rowsOf words)) ∷ length (upcomingList (rowsOf words)) ∷ []
     leaving put takens 0 (takenList (rowsOf words)) ∷ put upcomings 0 (upcomingList (rowsOf words)) ∷ []
@@ -161,20 +170,20 @@ accepted (Call.Save words room) = length (saved (tableOf words)) ∷ [] leaving 
 accepted (Call.Load words bytes) = length (loaded bytes .rows) ∷ [] leaving written words (loaded bytes) ∷ []
 
 -- Where several apply, the first line of the call's table is given, in the calls of document 01 "the smallest number". "A refusal returns its number
--- alone [..] and changes no lent word or byte."
+-- alone", but for what 5 carries, "and changes no lent word or byte."
 unfoldable pub ladder : List Rung → List (List ℕ) → Outcome → Outcome
 ladder [] lent done = done
 ladder (r ∷ rungs) lent done =
     let rest = ladder rungs lent done in
-    cond (r .holds) (record { answer = Answer.refuses (r .number); lent = lent }) rest
+    cond (r .holds) (record { answer = Answer.refuses (r .number) (r .carries); lent = lent }) rest
 
 unfoldable pub outcome : Call → Outcome
 outcome c = ladder (refusals c) (lentTo c) (accepted c)
 
--- Number k is given: its rung holds and no rung before it does.
-unfoldable pub Given : ℕ → List Rung → Type 0
-Given k [] = ⊥
-Given k (r ∷ rungs) = (So (r .holds) × (r .number ≡ k)) ⊎ ((r .holds ≡ false) × Given k rungs)
+-- Number k is given and carries these values: its rung holds and no rung before it does.
+unfoldable pub Given : ℕ → List ℕ → List Rung → Type 0
+Given k carried [] = ⊥
+Given k carried (r ∷ rungs) = (So (r .holds) × (r .number ≡ k) × (r .carries ≡ carried)) ⊎ ((r .holds ≡ false) × Given k carried rungs)
 
 -- No rung holds.
 unfoldable pub NoneGiven : List Rung → Type 0

@@ -1,11 +1,11 @@
 -- The words of document 01, "Words".
 use Prim.Native.Nat.{ℕ, _+_}
-use mathlib.Core.Bool.{Bool, false, not, _&&_, _||_}
+use mathlib.Core.Bool.{Bool, true, false, not, _&&_, cond}
 use mathlib.Core.List.{List}
 use lib.Dec.{eqb, leb}
 use lib.ListN.{length}
 use Rattle.rules.specs.Below.{someBelow, count}
-use Rattle.rules.specs.Rows.{Row, none, frameAt, parentAt, isShown, climb}
+use Rattle.rules.specs.Rows.{Row, none, docAt, frameAt, parentAt, isShown, climb}
 
 -- Places i and k are of one frame; fr tells the frames.
 abbrev pub same : (ℕ → ℕ) → ℕ → ℕ → Bool
@@ -43,14 +43,40 @@ steps rows = count (isStep rows) (length rows)
 abbrev pub scriptLength : List Row → ℕ
 scriptLength rows = steps rows + 1
 
--- "A document is visible when it and every document above it are shown." "Its question to a document is the question to its parent, once the
--- document itself is shown."
-abbrev pub visibleAsk : List Row → (ℕ → Bool) → ℕ → Bool
-visibleAsk rows up k = isShown rows k && (eqb (parentAt rows k) none || up (parentAt rows k))
+-- What hides a document: nobody, "or the number of the nearest document, itself first and then upwards, that isn't shown" (document 02, L4).
+pub data Hider : Type 0 where
+  nobody : Hider
+  document : (d : ℕ) → Hider
 
--- The question to row k, and to document d.
+abbrev pub isNobody : Hider → Bool
+isNobody Hider.nobody = true
+isNobody (Hider.document d) = false
+
+-- Its number; none where it is nobody.
+abbrev pub hiderNumber : Hider → ℕ
+hiderNumber Hider.nobody = none
+hiderNumber (Hider.document d) = d
+
+-- "Its question to a document is the question to its parent, once the document itself is shown": what hides row k, when `up d` hides document d.
+abbrev pub hiderAsk : List Row → (ℕ → Hider) → ℕ → Hider
+hiderAsk rows up k =
+    let above = cond (eqb (parentAt rows k) none) Hider.nobody (up (parentAt rows k)) in
+    cond (isShown rows k) above (Hider.document (docAt rows k))
+
+-- A document of no row is hidden, by no document that there is.
+abbrev pub lost : Hider
+lost = Hider.document none
+
+-- What hides row k, and document d.
+unfoldable pub hiderAt : List Row → ℕ → Hider
+hiderAt rows k = hiderAsk rows (climb lost (hiderAsk rows) rows k) k
+
+unfoldable pub hiderOf : List Row → ℕ → Hider
+hiderOf rows d = climb lost (hiderAsk rows) rows (length rows) d
+
+-- "A document is visible when it and every document above it are shown": nobody hides it.
 unfoldable pub visibleAt : List Row → ℕ → Bool
-visibleAt rows k = visibleAsk rows (climb false (visibleAsk rows) rows k) k
+visibleAt rows k = isNobody (hiderAt rows k)
 
 unfoldable pub visible : List Row → ℕ → Bool
-visible rows d = climb false (visibleAsk rows) rows (length rows) d
+visible rows d = isNobody (hiderOf rows d)

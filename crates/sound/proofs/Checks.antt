@@ -9,7 +9,7 @@ use lib.ListN.{length}
 use borrow.Author.Tests.{ltb-false}
 use Rattle.base.specs.declared.Refusal.{Refusal}
 use Rattle.base.specs.declared.Refusal.the-variants.{ShortRecord, Unsound}
-use Rattle.base.specs.Numbers.{numberOf}
+use Rattle.base.specs.Numbers.{numberOf, carriedBy}
 use Rattle.rules.specs.Words.{capacity, rowsOf}
 use Rattle.rules.specs.Sound.{Sound, sound?}
 use Rattle.rules.specs.Calls.{Call, Answer, Rung, _when_, short, unsound, lentTo, refusals, outcome, Given, NoneGiven}
@@ -40,14 +40,14 @@ module _ {A : Type 0} (no : Refusal → A) (fine : A) (words : List ℕ) where
 
   -- Refused: by the first two rungs, whatever follows.
   checked-given : ((a b : Refusal) → no a ≡ no b → a ≡ b) → ((a : Refusal) → fine ≡ no a → ⊥) → (rest : List Rung) (k : A) (r : Refusal) → k ≡ checked → k ≡ no r →
-      Given (numberOf r) (1 when short words ∷ 2 when unsound words ∷ rest)
+      Given (numberOf r) (carriedBy r) (1 when short words ∷ 2 when unsound words ∷ rest)
   unfolding Given
   checked-given same other rest k r e f =
       test (short words)
-      (λ t. inl (t, ap numberOf (same ShortRecord r (rw t at (sym e ∙ f)))))
+      (λ t. let q = same ShortRecord r (rw t at (sym e ∙ f)) in inl (t, ap numberOf q, ap carriedBy q))
       (λ o. test (sound? words)
       (λ t. absurd (other r (rw (o, t) at (sym e ∙ f))))
-      (λ t. inr (o, inl (rw t refl, ap numberOf (same Unsound r (rw (o, t) at (sym e ∙ f)))))))
+      (λ t. let q = same Unsound r (rw (o, t) at (sym e ∙ f)) in inr (o, inl (rw t refl, ap numberOf q, ap carriedBy q))))
 
   -- Not refused: the record is examined, and the answer is what is fine.
   checked-passes : (k y : A) → ((a : Refusal) → no a ≡ y → ⊥) → k ≡ checked → k ≡ y → Examined words × (fine ≡ y)
@@ -59,7 +59,7 @@ module _ {A : Type 0} (no : Refusal → A) (fine : A) (words : List ℕ) where
       (λ t. absurd (other Unsound (rw (o, t) at (sym e ∙ f)))))
 
 module _ (words : List ℕ) where
-  pub check-given : (rest : List Rung) (k : Check) (r : Refusal) → k ≡ checkOf words → k ≡ No r → Given (numberOf r) (1 when short words ∷ 2 when unsound words ∷ rest)
+  pub check-given : (rest : List Rung) (k : Check) (r : Refusal) → k ≡ checkOf words → k ≡ No r → Given (numberOf r) (carriedBy r) (1 when short words ∷ 2 when unsound words ∷ rest)
   unfolding checkOf
   check-given = checked-given No Fine words (λ a b q. cc) (λ a q. let z : _≡_ {A = ℕ} 0 1 = cc in omega arith)
 
@@ -68,7 +68,7 @@ module _ (words : List ℕ) where
   check-passes k e f = checked-passes No Fine words k Fine (λ a q. let z : _≡_ {A = ℕ} 0 1 = cc in omega arith) e f .0
 
   -- Refused: by the first two rungs, whatever follows.
-  pub survey-given : (rest : List Rung) (k : Survey) (r : Refusal) → k ≡ surveyOf words → k ≡ Survey·No r → Given (numberOf r) (1 when short words ∷ 2 when unsound words ∷ rest)
+  pub survey-given : (rest : List Rung) (k : Survey) (r : Refusal) → k ≡ surveyOf words → k ≡ Survey·No r → Given (numberOf r) (carriedBy r) (1 when short words ∷ 2 when unsound words ∷ rest)
   unfolding surveyOf
   survey-given = checked-given Survey·No (Stands (standOf (rowsOf words))) words (λ a b q. cc) (λ a q. let z : _≡_ {A = ℕ} 0 1 = cc in omega arith)
 
@@ -105,5 +105,5 @@ module _ (c : Call) (k : Check) (j : Judged c k) where
   pub judged-fine : k ≡ Fine → NoneGiven (refusals c)
   judged-fine e = subst (Judged c) e j
 
-  pub judged-refused : (r : Refusal) → k ≡ No r → outcome c ≡ record { answer = Answer.refuses (numberOf r); lent = lentTo c }
-  judged-refused r e = outcome-refused c (numberOf r) (subst (Judged c) e j)
+  pub judged-refused : (r : Refusal) → k ≡ No r → outcome c ≡ record { answer = Answer.refuses (numberOf r) (carriedBy r); lent = lentTo c }
+  judged-refused r e = outcome-refused c (numberOf r) (carriedBy r) (subst (Judged c) e j)

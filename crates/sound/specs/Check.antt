@@ -5,7 +5,7 @@ use mathlib.Core.List.{List}
 use Rattle.base.specs.declared.Refusal.the-variants.{ShortRecord, Unsound}
 use mathlib.Core.Path.{_≡_}
 use Rattle.rules.specs.Sound.{sound?}
-use Rattle.base.specs.Numbers.{numberOf}
+use Rattle.base.specs.Numbers.{numberOf, carriedBy}
 use Rattle.rules.specs.Calls.{Call, Rung, short, unsound, refusals, Given, NoneGiven}
 use Rattle.sound.specs.declared.Check.{Check}
 use Rattle.sound.specs.declared.Check.the-variants.{Sound, No}
@@ -21,7 +21,7 @@ pub record Examined (words : List ℕ) : Type 0 where
 -- What a judge of a table says: none of its refusals is given, or this one is.
 abbrev pub Settles : List Rung → Check → Type 0
 Settles rungs Sound = NoneGiven rungs
-Settles rungs (No r) = Given (numberOf r) rungs
+Settles rungs (No r) = Given (numberOf r) (carriedBy r) rungs
 
 -- The same of a call.
 abbrev pub Judged : Call → Check → Type 0

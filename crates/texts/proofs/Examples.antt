@@ -5,14 +5,14 @@ use mathlib.Core.Path.{_≡_, refl}
 use lib.ListN.{replicate}
 use Rattle.rules.specs.Below.{someBelow, allBelow, count, earliest, latest, tab, gather}
 use Rattle.rules.specs.Rows.{inRecord, place, isFrame, withFlags, climb}
-use Rattle.rules.specs.Steps.{step, reach, position, steps, visible}
+use Rattle.rules.specs.Steps.{step, reach, position, steps, hiderOf, visible}
 use Rattle.rules.specs.Moves.{opened, gone, without, hide, navigated, show, forward, backTarget, rowBefore, back, walked, shownDoc, changeRow, changes}
 use Rattle.rules.specs.Words.{put, tableOf, wordsOf, written}
 use Rattle.rules.specs.Sound.{soundTable?, sound?}
 use Rattle.rules.specs.Calls.{refusals, accepted, ladder, outcome}
 use Rattle.lines.specs.Decimal.{decimalBy, decimal, decimal?, spelled, upTo, numeral}
 use Rattle.lines.specs.Lines.{starts?, going, otherWord, worded, parse}
-use Rattle.lines.specs.Reply.{statusText, answerText}
+use Rattle.lines.specs.Reply.{statusText, deniedText, answerText}
 use Rattle.turns.specs.Turns.{turned}
 use Rattle.texts.specs.Texts.{linesFrom, answers, printed}
 
@@ -37,12 +37,15 @@ goLine d = 103 ∷ 111 ∷ 32 ∷ d ∷ 10 ∷ []
 abbrev backLine : ℕ → List ℕ
 backLine d = 103 ∷ 111 ∷ 32 ∷ 45 ∷ d ∷ 10 ∷ []
 
--- `ok V P/S`, `no K P/S`, `bad`, each with its newline; V, K, P and S are digits.
+-- `ok V P/S`, `no K P/S`, `no 5 at D P/S`, `bad`, each with its newline; V, K, D, P and S are digits.
 abbrev okLine : ℕ → ℕ → ℕ → List ℕ
 okLine v p s = 111 ∷ 107 ∷ 32 ∷ v ∷ 32 ∷ p ∷ 47 ∷ s ∷ 10 ∷ []
 
 abbrev noLine : ℕ → ℕ → ℕ → List ℕ
 noLine k p s = 110 ∷ 111 ∷ 32 ∷ k ∷ 32 ∷ p ∷ 47 ∷ s ∷ 10 ∷ []
+
+abbrev hiddenLine : ℕ → ℕ → ℕ → List ℕ
+hiddenLine d p s = 110 ∷ 111 ∷ 32 ∷ 53 ∷ 32 ∷ 97 ∷ 116 ∷ 32 ∷ d ∷ 32 ∷ p ∷ 47 ∷ s ∷ 10 ∷ []
 
 abbrev badLine : List ℕ
 badLine = 98 ∷ 97 ∷ 100 ∷ 10 ∷ []
@@ -53,6 +56,11 @@ scripts =
     record {
       text = openLine ++ openLine ++ navLine 49 ++ navLine 50 ++ backLine 50 ++ goLine 49 ++ navLine 51 ++ navLine 52 ++ backLine 51;
       expected = okLine 49 48 48 ++ okLine 50 48 48 ++ okLine 51 49 49 ++ okLine 52 50 50 ++ okLine 50 48 50 ++ okLine 49 49 50 ++ okLine 53 50 50 ++ noLine 52 50 50 ++ noLine 54 50 50;
+    }
+    -- "the script prints `no 5 at D` before the position": document 1 lies in 0, which gave way to 2, so that 0 hides both.
+    ∷ record {
+      text = openLine ++ navLine 48 ++ navLine 49 ++ navLine 48;
+      expected = okLine 49 48 48 ++ okLine 50 49 49 ++ hiddenLine 48 49 49 ++ hiddenLine 48 49 49;
     }
     -- An empty text has no line; a newline ends an empty one, which is bad.
     ∷ record { text = []; expected = [] }
@@ -66,8 +74,8 @@ scripts =
 
 -- Each text prints what is expected of it, with room for eight rows.
 pub scripts-hold : map (λ s. printed 8 (s .text)) scripts ≡ map (λ s. s .expected) scripts
-unfolding someBelow allBelow count earliest latest tab gather inRecord place isFrame withFlags climb step reach position steps visible
+unfolding someBelow allBelow count earliest latest tab gather inRecord place isFrame withFlags climb step reach position steps hiderOf visible
     opened gone without hide navigated show forward backTarget rowBefore back walked shownDoc changeRow changes
     put tableOf wordsOf written soundTable? sound? refusals accepted ladder outcome flatMap
-    decimalBy decimal decimal? spelled upTo numeral starts? going otherWord worded parse statusText answerText turned linesFrom answers printed
+    decimalBy decimal decimal? spelled upTo numeral starts? going otherWord worded parse statusText deniedText answerText turned linesFrom answers printed
 scripts-hold = refl

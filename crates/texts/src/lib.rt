@@ -6,7 +6,7 @@ use lines::Reply;
 ghost use mathlib.Core.Path.{_≡_};
 ghost use Prim.Native.Nat.{_+_, _≤_, min};
 ghost use lib.ListN.{length, set, take};
-ghost use Rattle.base.specs.Numbers.{numberOf};
+ghost use Rattle.base.specs.Numbers.{numberOf, carriedBy};
 ghost use Rattle.laws.specs.Writes.{Wrote};
 ghost use Rattle.lines.specs.Reply.{Said, replyIs, answerText};
 ghost use Rattle.texts.specs.Cuts.{grown, Cuts};
@@ -66,8 +66,10 @@ fn put_ok(out: &mut [u8], at: usize, v: usize, p: usize, s: usize) -> usize
 // Puts the answer to a refused call into out, and says where it ends.
 fn put_no(out: &mut [u8], at: usize, why: Refusal, p: usize, s: usize) -> usize
     requires { ⌜ at + 66 ≤ length (now out) ⌝ }
-    ensures { λ r. ⌜ Wrote (now (out .entry)) at (answerText (Said.denied (numberOf why) p s)) (now (out .exit)) r × (r ≤ at + 66) ⌝ }
+    ensures { λ r. ⌜ Wrote (now (out .entry)) at (answerText (Said.denied (numberOf why) (carriedBy why) p s)) (now (out .exit)) r × (r ≤ at + 66) ⌝ }
 {
+    // What the refusal carries is a number of 32 bits, so that the answer is no longer than others.
+    base::refusal_carries(why);
     lines::put_answer(out, at, Reply::No(why, p, s))
 }
 

@@ -201,7 +201,7 @@ module _ (words : List ℕ) (a b : ℕ) (start : Start words a b) (from to : ℕ
         let x = start .examined in
         let n = counts δ e in
         let m : length lent < length (changes (tableOf words) δ) = omega arith in
-        outcome-refused (Call.Traverse words δ lent) 9 (inr (x .long, inr (rw (x .passes) refl, inr (within δ e, inl (lt-ltb _ _ m, refl))))))
+        outcome-refused (Call.Traverse words δ lent) 9 [] (inr (x .long, inr (rw (x .passes) refl, inr (within δ e, inl (lt-ltb _ _ m, refl, refl))))))
 
     pub travel-done : (words' : List ℕ) (first : ℕ) → NextBetween (tableOf words) 0 a b first → count ≤ room → words' ≡ written words (movedTo (tableOf words) b) →
         Travels words room from to (Went (record { before = record { 0 = a }; after = record { 0 = b }; first = record { 0 = first }; count = count })) words'
@@ -242,7 +242,7 @@ pub beyond-way : (words : List ℕ) (room : ℕ) (δ : ℤ) (s : Stand) → Loca
 unfolding refusals Given
 beyond-way words room δ s x h =
     let g : So (outside (steps (rowsOf words)) (pos (position (rowsOf words)) +ℤ δ)) = rw (stand-position words s x, stand-steps words s x) at h in
-    stays words δ room Beyond (λ lent r. outcome-refused (Call.Traverse words δ lent) 6 (inr (x .0 .long, inr (rw (x .0 .passes) refl, inl (g, refl)))))
+    stays words δ room Beyond (λ lent r. outcome-refused (Call.Traverse words δ lent) 6 [] (inr (x .0 .long, inr (rw (x .0 .passes) refl, inl (g, refl, refl)))))
 
 -- An amount as it is handed on.
 pub by-amount : (words room : List ℕ) (o : Outcome) (z δ : ℤ) → z ≡ δ → outcome (Call.Traverse words z room) ≡ o → outcome (Call.Traverse words δ room) ≡ o
@@ -254,7 +254,7 @@ shift-by words words' room s z δ e h = subst (λ d. Shifts words d room s words
 -- Refused by the first two rungs.
 pub survey-way : (words : List ℕ) (room : ℕ) (δ : ℤ) (k : Survey) (r : Refusal) → k ≡ surveyOf words → k ≡ No r → Shifts words δ room (Stayed r) words
 unfolding refusals
-survey-way words room δ k r e f = stays words δ room r (λ lent z. outcome-refused (Call.Traverse words δ lent) _ (survey-given words _ k r e f))
+survey-way words room δ k r e f = stays words δ room r (λ lent z. outcome-refused (Call.Traverse words δ lent) _ _ (survey-given words _ k r e f))
 
 -- Whoever writes the change rows of a shift.
 pub went-ready : (words words' : List ℕ) (δ : ℤ) (room : ℕ) (s : Shifted) → Shifts words δ room s words' → (t : Trip) → s ≡ Went t → Ready words' (t .before .0) (t .after .0) × NextBetween (tableOf words') 0 (t .before .0) (t .after .0) (t .first .0)

@@ -4,7 +4,7 @@ use mathlib.Core.List.{List, [], _∷_}
 use mathlib.Core.Path.{_≡_}
 use lib.IntN.{ℤ, pos, _+ℤ_}
 use lib.ListN.{length}
-use Rattle.base.specs.Numbers.{numberOf}
+use Rattle.base.specs.Numbers.{numberOf, carriedBy}
 use Rattle.rules.specs.Words.{put, tableOf}
 use Rattle.rules.specs.Calls.{Call, Answer, outcome}
 use Rattle.traverses.specs.declared.Traversed.{Traversed}
@@ -18,7 +18,7 @@ use Rattle.traverses.specs.Texts.{placesText, Begins, Ready}
 -- The number of change rows, or the refusal's number.
 abbrev pub traversedIs : Traversed → Answer
 traversedIs (Changes n) = Answer.gives (n ∷ [])
-traversedIs (Refused r) = Answer.refuses (numberOf r)
+traversedIs (Refused r) = Answer.refuses (numberOf r) (carriedBy r)
 
 -- What is answered for a shift, and its trip: from the first place to itself where it stayed.
 abbrev pub answerOf : Shifted → Traversed

@@ -1,6 +1,6 @@
 -- What one line of a script does: the call it asks, then Position. Its answer is in the words of document 01:
 -- "Accepted: `ok`, then the new document number (open, nav) or the count of changed frames (go), then position/steps.
--- Refused: `no`, the refusal, position/steps." "`drop F`, with the count of rows removed as its value" (document 02, L1).
+-- Refused: `no`, the refusal, position/steps." "`drop F`, with the count of rows removed as its value" (document 02, L1); what 5 carries comes before the position (L4).
 use Prim.Native.Nat.{ℕ}
 use mathlib.Core.List.{List, []}
 use mathlib.Core.Path.{_≡_}
@@ -12,17 +12,17 @@ use Rattle.lines.specs.Reply.{Said}
 -- A number, where the window stands; where Position itself refuses, its refusal at 0/0.
 abbrev pub okAt : Answer → ℕ → Said
 okAt (Answer.gives at) v = Said.ok v (getD at 0 0) (getD at 1 0)
-okAt (Answer.refuses k) v = Said.denied k 0 0
+okAt (Answer.refuses k carried) v = Said.denied k carried 0 0
 
--- A refusal, where the window stands; where Position itself refuses, its refusal at 0/0.
-abbrev pub deniedAt : Answer → ℕ → Said
-deniedAt (Answer.gives at) k = Said.denied k (getD at 0 0) (getD at 1 0)
-deniedAt (Answer.refuses k') k = Said.denied k' 0 0
+-- A refusal with what it carries, where the window stands; where Position itself refuses, its refusal at 0/0.
+abbrev pub deniedAt : Answer → ℕ → List ℕ → Said
+deniedAt (Answer.gives at) k carried = Said.denied k carried (getD at 0 0) (getD at 1 0)
+deniedAt (Answer.refuses k' carried') k carried = Said.denied k' carried' 0 0
 
 -- A call's answer: of what it gives the first is told, the new document, the count of changed frames or that of rows removed.
 abbrev pub told : Answer → Answer → Said
 told at (Answer.gives values) = okAt at (getD values 0 0)
-told at (Answer.refuses k) = deniedAt at k
+told at (Answer.refuses k carried) = deniedAt at k carried
 
 -- Where the window stands.
 abbrev pub standing : List ℕ → Answer

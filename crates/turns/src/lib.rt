@@ -10,7 +10,7 @@ use moves::Opened;
 use navigates::Navigated;
 use traverses::Traversed;
 ghost use mathlib.Core.Path.{_≡_};
-ghost use Rattle.base.specs.Numbers.{numberOf};
+ghost use Rattle.base.specs.Numbers.{numberOf, carriedBy};
 ghost use Rattle.rules.specs.Calls.{Call, outcome};
 ghost use Rattle.lines.specs.Reply.{replyIs};
 ghost use Rattle.turns.specs.Turns.{okAt, deniedAt, standing, Leaves, gone, turned};
@@ -27,7 +27,7 @@ fn accept(words: &[u32], v: usize) -> Reply
 
 // The answer to a refused call: why, and where the window stands.
 fn deny(words: &[u32], why: Refusal) -> Reply
-    ensures { λ r. ⌜ replyIs r ≡ deniedAt (standing (now (words .entry))) (numberOf why) ⌝ }
+    ensures { λ r. ⌜ replyIs r ≡ deniedAt (standing (now (words .entry))) (numberOf why) (carriedBy why) ⌝ }
 {
     match asks::position(words) {
         Standing::At(p, s, _) => Reply::No(why, p, s),

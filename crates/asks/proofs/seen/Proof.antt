@@ -1,7 +1,9 @@
 -- `asks::seen` meets its contract. Assumes nothing.
+use mathlib.Core.Path.{sym, ap, _∙_}
 use borrow.Author.Needs.{needs}
 use denote.Ref.{now}
-use Rattle.asks.proofs.Climbs.{seen-absent, found-within, seen-visible, seen-hidden}
+use Rattle.asks.specs.Answers.{hiderIs}
+use Rattle.asks.proofs.Climbs.{seen-absent, seen-by}
 use Rattle.asks.proofs.seen.Statement.{statement}
 use Rattle.asks.proofs.seen.Tie as tie
 
@@ -11,16 +13,16 @@ seen-spec =
     (λ c κs. search needs)
     (λ c. search needs)
     (λ c. search needs)
-    (λ c κs. let c2 = c .before .before in
-    let c4 = c2 .before .before in
-    found-within (now (c4 .before .before .args .t1)) _ _ (c4 .find .ensures) _ (c2 .at .given .1))
+    (λ c κs. search needs)
+    (λ c. search needs)
+    (λ c. search needs)
     (λ c. let c2 = c .before .before in
-    seen-absent (now (c2 .before .before .args .t1)) _ _ (c2 .find .ensures) (c .enum-told .given .1))
-    (λ c. let c1 = c .before in
-    let c4 = c1 .before .before .before in
+    seen-absent (now (c2 .before .before .args .words)) _ _ (c2 .find .ensures) (c .enum-told .given .1))
+    (λ c. let c2 = c .before .before in
+    let c4 = c2 .before .before in
     let c6 = c4 .before .before in
-    seen-visible (now (c6 .before .before .args .t1)) _ _ (c6 .find .ensures) _ (c4 .at .given .1) _ (c1 .ascend .ensures) (c .if1 .taken))
-    (λ c. let c1 = c .before in
-    let c4 = c1 .before .before .before in
-    let c6 = c4 .before .before in
-    seen-hidden (now (c6 .before .before .args .t1)) _ _ (c6 .find .ensures) _ (c4 .at .given .1) _ (c1 .ascend .ensures) (c .if1 .left)))
+    seen-by (now (c6 .before .before .args .words)) _ _ (c6 .find .ensures) _ (c4 .at .given .1) _ (sym (ap hiderIs (c .enum-told2 .given .1)) ∙ c2 .hiding .ensures))
+    (λ c. let c3 = c .before .before .before in
+    let c5 = c3 .before .before in
+    let c7 = c5 .before .before in
+    seen-by (now (c7 .before .before .args .words)) _ _ (c7 .find .ensures) _ (c5 .at .given .1) _ (sym (ap hiderIs (c .before .h .given .1)) ∙ c3 .hiding .ensures)))

@@ -1,14 +1,15 @@
 -- `drops::judge` meets its contract. Assumes nothing.
 use Prim.Native.Nat.{_≤_}
+use mathlib.Core.Path.{sym, ap, _∙_}
 use native.Mathlib.Omega.{arith}
 use borrow.Author.Needs.{needs}
-use borrow.Author.Tests.{not-true, not-false}
 use denote.Ref.{now}
 use Rattle.rules.specs.Rows.{none}
 use Rattle.rules.specs.Words.{tableOf}
 use Rattle.laws.proofs.Words.{next-doc-in}
 use Rattle.sound.proofs.Checks.{examined-fits}
-use Rattle.drops.proofs.Judges.{drop-absent, drop-root, parent-before, drop-hidden, drop-fine}
+use Rattle.asks.specs.Answers.{hiderIs}
+use Rattle.drops.proofs.Judges.{drop-absent, drop-root, parent-before, drop-by}
 use Rattle.drops.proofs.judge.Statement.{statement}
 use Rattle.drops.proofs.judge.Tie as tie
 
@@ -31,21 +32,23 @@ judge-spec =
     let c7 = c5 .before .before in
     parent-before (now (c7 .args .words)) (c7 .pre .0) _ _ (c7 .pre .1) (omega (arith, c5 .row-count .ensures)) _ (c2 .parent .ensures) (c .if2 .left))
     (λ c κs. search needs)
-    (λ c. let c1 = c .before in
-    let c2 = c1 .before in
-    let c3 = c2 .before in
-    let c5 = c3 .before .before in
-    let c8 = c5 .before .before .before in
-    let c9 = c8 .before in
-    let c10 = c9 .before in
-    let w : tableOf (now (c10 .args .words)) .nextDoc ≤ none = omega (arith, c9 .shared-slice-known .given 1, next-doc-in (now (c10 .args .words))) in
-    drop-hidden (now (c10 .args .words)) (c10 .pre .0) _ _ (c10 .pre .1) (omega (arith, c8 .row-count .ensures)) _ (c5 .parent .ensures) (c3 .if2 .left) w _ (c2 .place-before .ensures .0) (c2 .place-before .ensures .1) _ (c1 .climb .ensures) (not-true _ (c .if3 .taken)))
-    (λ c. let c1 = c .before in
-    let c2 = c1 .before in
-    let c3 = c2 .before in
-    let c5 = c3 .before .before in
-    let c8 = c5 .before .before .before in
-    let c9 = c8 .before in
-    let c10 = c9 .before in
-    let w : tableOf (now (c10 .args .words)) .nextDoc ≤ none = omega (arith, c9 .shared-slice-known .given 1, next-doc-in (now (c10 .args .words))) in
-    drop-fine (now (c10 .args .words)) (c10 .pre .0) _ _ (c10 .pre .1) (omega (arith, c8 .row-count .ensures)) _ (c5 .parent .ensures) (c3 .if2 .left) w _ (c2 .place-before .ensures .0) (c2 .place-before .ensures .1) _ (c1 .climb .ensures) (not-false _ (c .if3 .left))))
+    (λ c. search needs)
+    (λ c. search needs)
+    (λ c. let a = c .before .before .before in
+    let p = a .before in
+    let e = p .before in
+    let u = e .before .before in
+    let n = u .before .before .before in
+    let s = n .before .before in
+    let w : tableOf (now (s .args .words)) .nextDoc ≤ none = omega (arith, n .before .shared-slice-known .given 1, next-doc-in (now (s .args .words))) in
+    drop-by (now (s .args .words)) (s .pre .0) _ _ (s .pre .1) (omega (arith, n .row-count .ensures)) _ (u .parent .ensures) (e .if2 .left) w _
+    (p .place-before .ensures .0) (p .place-before .ensures .1) _ (sym (ap hiderIs (c .before .h .given .1)) ∙ a .hiding .ensures))
+    (λ c. let a = c .before .before in
+    let p = a .before in
+    let e = p .before in
+    let u = e .before .before in
+    let n = u .before .before .before in
+    let s = n .before .before in
+    let w : tableOf (now (s .args .words)) .nextDoc ≤ none = omega (arith, n .before .shared-slice-known .given 1, next-doc-in (now (s .args .words))) in
+    drop-by (now (s .args .words)) (s .pre .0) _ _ (s .pre .1) (omega (arith, n .row-count .ensures)) _ (u .parent .ensures) (e .if2 .left) w _
+    (p .place-before .ensures .0) (p .place-before .ensures .1) _ (sym (ap hiderIs (c .enum-told .given .1)) ∙ a .hiding .ensures)))

@@ -4,7 +4,7 @@ use mathlib.Core.Path.{ap}
 use native.Mathlib.Omega.{arith}
 use Rattle.drops.specs.Answers.{droppedIs}
 use Rattle.frame_history.proofs.Bounds.{drop-small}
-use Rattle.frame_history.proofs.Faces.{face-gives, face-refuses}
+use Rattle.frame_history.proofs.Faces.{hiding-gives, hiding-refuses}
 use Rattle.frame_history.proofs.frame_history_drop.Statement.{statement}
 use Rattle.frame_history.proofs.frame_history_drop.Tie as tie
 
@@ -17,6 +17,7 @@ frame-history-drop-spec =
     (λ c. search needs)
     (λ c κs. search needs)
     (λ c. search needs)
-    (λ c. face-gives _ _ _ _ (c .before .before .before .before .before .drop-frame .ensures) _ (ap droppedIs (c .before .n .given .1)))
+    (λ c. hiding-gives _ _ _ _ (c .before .before .before .before .before .drop-frame .ensures) _ _ (ap droppedIs (c .before .n .given .1)))
     (λ c. search needs)
-    (λ c. face-refuses _ _ _ _ (c .before .before .before .before .before .before .drop-frame .ensures) _ _ (ap droppedIs (c .before .before .r .given .1)) (c .refusal-number .ensures)))
+    (λ c. let r = c .before .before .before in
+    hiding-refuses _ _ _ _ (r .before .before .before .before .drop-frame .ensures) _ _ _ _ _ (ap droppedIs (r .r .given .1)) (c .refused .ensures)))

@@ -16,4 +16,4 @@ frame-history-fresh-spec =
     (λ c. search needs)
     (λ c. face-gives _ _ _ _ (c .before .before .before .before .fresh .ensures) _ (ap freshIs (c .enum-told .given .1)))
     (λ c. search needs)
-    (λ c. face-refuses _ _ _ _ (c .before .before .before .before .before .before .fresh .ensures) _ _ (ap freshIs (c .before .before .r .given .1)) (c .refusal-number .ensures)))
+    (λ c. face-refuses _ _ _ _ (c .before .before .before .before .before .before .fresh .ensures) _ _ _ (ap freshIs (c .before .before .r .given .1)) (c .refusal-number .ensures)))

@@ -22,4 +22,4 @@ frame-history-lists-spec =
     (λ c. face-gives _ _ _ _ (c .before .before .before .before .before .before .before .lists .ensures) _ (ap listedIs (c .before .t .given .1)))
     (λ c. search needs)
     (λ c. search needs)
-    (λ c. face-refuses _ _ _ _ (c .before .before .before .before .before .before .before .before .lists .ensures) _ _ (ap listedIs (c .before .before .r .given .1)) (c .refusal-number .ensures)))
+    (λ c. face-refuses _ _ _ _ (c .before .before .before .before .before .before .before .before .lists .ensures) _ _ _ (ap listedIs (c .before .before .r .given .1)) (c .refusal-number .ensures)))

@@ -19,4 +19,4 @@ frame-history-load-spec =
     (λ c. search needs)
     (λ c. face-gives _ _ _ _ (c .before .before .before .before .before .load .ensures) _ (ap loadingIs (c .before .n .given .1)))
     (λ c. search needs)
-    (λ c. face-refuses _ _ _ _ (c .before .before .before .before .before .before .load .ensures) _ _ (ap loadingIs (c .before .before .r .given .1)) (c .refusal-number .ensures)))
+    (λ c. face-refuses _ _ _ _ (c .before .before .before .before .before .before .load .ensures) _ _ _ (ap loadingIs (c .before .before .r .given .1)) (c .refusal-number .ensures)))

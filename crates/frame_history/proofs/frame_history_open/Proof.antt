@@ -2,7 +2,7 @@
 use borrow.Author.Needs.{needs}
 use mathlib.Core.Path.{ap}
 use Rattle.moves.specs.Answers.{openedIs}
-use Rattle.frame_history.proofs.Faces.{face-gives, face-refuses}
+use Rattle.frame_history.proofs.Faces.{hiding-gives, hiding-refuses}
 use Rattle.frame_history.proofs.frame_history_open.Statement.{statement}
 use Rattle.frame_history.proofs.frame_history_open.Tie as tie
 
@@ -14,6 +14,7 @@ frame-history-open-spec =
     (λ c. search needs)
     (λ c κs. search needs)
     (λ c. search needs)
-    (λ c. face-gives _ _ _ _ (c .before .before .before .before .before .open-frame .ensures) _ (ap openedIs (c .before .d .given .1)))
+    (λ c. hiding-gives _ _ _ _ (c .before .before .before .before .before .open-frame .ensures) _ _ (ap openedIs (c .before .d .given .1)))
     (λ c. search needs)
-    (λ c. face-refuses _ _ _ _ (c .before .before .before .before .before .before .open-frame .ensures) _ _ (ap openedIs (c .before .before .r .given .1)) (c .refusal-number .ensures)))
+    (λ c. let r = c .before .before .before in
+    hiding-refuses _ _ _ _ (r .before .before .before .before .open-frame .ensures) _ _ _ _ _ (ap openedIs (r .r .given .1)) (c .refused .ensures)))

@@ -21,4 +21,4 @@ frame-history-outline-spec =
     (λ c. search needs)
     (λ c. face-gives _ _ _ _ (c .before .before .before .before .before .outline .ensures) _ (ap outlinedIs (c .before .n .given .1)))
     (λ c. search needs)
-    (λ c. face-refuses _ _ _ _ (c .before .before .before .before .before .before .outline .ensures) _ _ (ap outlinedIs (c .before .before .r .given .1)) (c .refusal-number .ensures)))
+    (λ c. face-refuses _ _ _ _ (c .before .before .before .before .before .before .outline .ensures) _ _ _ (ap outlinedIs (c .before .before .r .given .1)) (c .refusal-number .ensures)))

@@ -19,4 +19,4 @@ frame-history-position-spec =
     (λ c. search needs)
     (λ c κs. search needs)
     (λ c. face-gives _ _ _ _ (c .before .before .before .position .ensures) _ (ap standingIs (c .before .p .given .1)))
-    (λ c. face-refuses _ _ _ _ (c .before .before .before .before .position .ensures) _ _ (ap standingIs (c .before .before .r .given .1)) (c .refusal-number .ensures)))
+    (λ c. face-refuses _ _ _ _ (c .before .before .before .before .position .ensures) _ _ _ (ap standingIs (c .before .before .r .given .1)) (c .refusal-number .ensures)))

@@ -19,4 +19,4 @@ frame-history-save-spec =
     (λ c. search needs)
     (λ c. face-gives _ _ _ _ (c .before .before .before .before .before .save .ensures) _ (ap savingIs (c .before .n .given .1)))
     (λ c. search needs)
-    (λ c. face-refuses _ _ _ _ (c .before .before .before .before .before .before .save .ensures) _ _ (ap savingIs (c .before .before .r .given .1)) (c .refusal-number .ensures)))
+    (λ c. face-refuses _ _ _ _ (c .before .before .before .before .before .before .save .ensures) _ _ _ (ap savingIs (c .before .before .r .given .1)) (c .refusal-number .ensures)))

@@ -19,4 +19,4 @@ frame-history-stretch-spec =
     (λ c. search needs)
     (λ c κs. search needs)
     (λ c. face-gives _ _ _ _ (simp (toZ-ofZ w32 _ (c .before .before .before .before .before .before .fits .delta)) at (c .before .before .before .stretch-count .ensures)) _ (ap stretchIs (c .before .n .given .1)))
-    (λ c. face-refuses _ _ _ _ (simp (toZ-ofZ w32 _ (c .before .before .before .before .before .before .before .fits .delta)) at (c .before .before .before .before .stretch-count .ensures)) _ _ (ap stretchIs (c .before .before .r .given .1)) (c .refusal-number .ensures)))
+    (λ c. face-refuses _ _ _ _ (simp (toZ-ofZ w32 _ (c .before .before .before .before .before .before .before .fits .delta)) at (c .before .before .before .before .stretch-count .ensures)) _ _ _ (ap stretchIs (c .before .before .r .given .1)) (c .refusal-number .ensures)))

@@ -15,5 +15,5 @@ frame-history-visible-spec =
     (λ c. search needs)
     (λ c κs. search needs)
     (λ c. face-gives _ _ _ _ (c .before .before .visible .ensures) _ (ap sightIs (c .enum-told .given .1)))
-    (λ c. face-gives _ _ _ _ (c .before .before .visible .ensures) _ (ap sightIs (c .enum-told2 .given .1)))
-    (λ c. face-refuses _ _ _ _ (c .before .before .before .before .visible .ensures) _ _ (ap sightIs (c .before .before .r .given .1)) (c .refusal-number .ensures)))
+    (λ c. face-gives _ _ _ _ (c .before .before .before .visible .ensures) _ (ap sightIs (c .before .h .given .1)))
+    (λ c. face-refuses _ _ _ _ (c .before .before .before .before .visible .ensures) _ _ _ (ap sightIs (c .before .before .r .given .1)) (c .refusal-number .ensures)))

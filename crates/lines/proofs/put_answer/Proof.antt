@@ -14,12 +14,9 @@ put-answer-spec =
     let c5 = c2 .before .before .before in
     same-room _ _ (c5 .args .at) (length (now (c5 .args .out))) (answer-ok (c5 .args .reply) _ _ _ (c2 .reply .given .1)) (c5 .pre))
     (λ c. search needs)
-    (λ c κs. search needs)
-    (λ c. search needs)
-    (λ c κs. let c1 = c .before in
-    let c3 = c1 .before .before in
-    let c6 = c3 .before .before .before in
-    same-room _ _ (c6 .args .at) (length (now (c6 .args .out))) (answer-no (c6 .args .reply) _ _ _ _ (c1 .refusal-number .ensures) (c3 .reply2 .given .1)) (c6 .pre))
+    (λ c κs. let c2 = c .before .before in
+    let c5 = c2 .before .before .before in
+    same-room _ _ (c5 .args .at) (length (now (c5 .args .out))) (answer-no (c5 .args .reply) _ _ _ (c2 .reply2 .given .1)) (c5 .pre))
     (λ c. search needs)
     (λ c κs. let c1 = c .before in
     let c4 = c1 .before .before .before in
@@ -31,10 +28,9 @@ put-answer-spec =
     same-text _ _ _ _ _ _ (answer-ok (c8 .args .reply) _ _ _ (c5 .reply .given .1)) (c2 .put-status .ensures))
     (λ c. search needs)
     (λ c. let c2 = c .before .before in
-    let c4 = c2 .before .before in
-    let c6 = c4 .before .before in
-    let c9 = c6 .before .before .before in
-    same-text _ _ _ _ _ _ (answer-no (c9 .args .reply) _ _ _ _ (c4 .refusal-number .ensures) (c6 .reply2 .given .1)) (c2 .put-status2 .ensures))
+    let c5 = c2 .before .before .before in
+    let c8 = c5 .before .before .before in
+    same-text _ _ _ _ _ _ (answer-no (c8 .args .reply) _ _ _ (c5 .reply2 .given .1)) (c2 .put-refusal .ensures))
     (λ c. search needs)
     (λ c. let c2 = c .before .before in
     let c4 = c2 .before .before in

@@ -20,10 +20,11 @@ judge-spec =
     let c3 = c1 .before .before in
     let c5 = c3 .before .before in
     not-there (now (c5 .args .words)) (c5 .pre .0) _ (roomRungs (now (c5 .args .words))) _ (c3 .seen .ensures) _ (c1 .r .given .1))
-    (λ c. let c2 = c .before .before in
-    let c4 = c2 .before .before in
-    not-shown (now (c4 .args .words)) (c4 .pre .0) _ (roomRungs (now (c4 .args .words))) _ (c2 .seen .ensures) (c .enum-told .given .1))
     (λ c. let c1 = c .before in
     let c3 = c1 .before .before in
     let c5 = c3 .before .before in
-    shown-there (now (c5 .args .words)) (c5 .pre .0) _ (roomRungs (now (c5 .args .words))) _ (c3 .seen .ensures) (c1 .enum-told2 .given .1) (c .judge-room .result) (c .judge-room .ensures)))
+    not-shown (now (c5 .args .words)) (c5 .pre .0) _ (roomRungs (now (c5 .args .words))) _ (c3 .seen .ensures) _ (c1 .h .given .1))
+    (λ c. let c1 = c .before in
+    let c3 = c1 .before .before in
+    let c5 = c3 .before .before in
+    shown-there (now (c5 .args .words)) (c5 .pre .0) _ (roomRungs (now (c5 .args .words))) _ (c3 .seen .ensures) (c1 .enum-told .given .1) (c .judge-room .result) (c .judge-room .ensures)))
