@@ -34,12 +34,13 @@ static int go(uint32_t *words, const char *where, int32_t delta) {
   return 0;
 }
 
-/* Whether a document is visible, and if it is not, which document hides it. */
+/* Whether a document is visible, and if it is not, which document hides it; and how far that had to be asked upwards. */
 static void sight(const uint32_t *words, uint32_t document) {
-  uint32_t answer, hiding;
-  if (refused("visible", frame_history_visible(words, WORDS, document, &answer, &hiding))) return;
-  if (answer == 1) printf("  document %u is visible\n", (unsigned)document);
-  else printf("  document %u is hidden by document %u\n", (unsigned)document, (unsigned)hiding);
+  uint32_t answer, hiding, links;
+  if (refused("visible", frame_history_visible(words, WORDS, document, &answer, &hiding, &links))) return;
+  if (answer == 1) printf("  document %u is visible", (unsigned)document);
+  else printf("  document %u is hidden by document %u", (unsigned)document, (unsigned)hiding);
+  printf(" (links followed: %u)\n", (unsigned)links);
 }
 
 /* A click in a document that is hidden: `hiding` is the one out word that a refusal writes, and refusal 5 alone writes it. */
@@ -50,7 +51,7 @@ static int click(uint32_t *words, uint32_t from, uint32_t hider) {
 }
 
 int main(void) {
-  uint32_t words[WORDS], frame, stock, quotation, more, terms, other, prices, removed, answer = 7, hiding = 7, number;
+  uint32_t words[WORDS], frame, stock, quotation, more, terms, other, prices, removed, answer = 7, hiding = 7, links = 7, number;
 
   if (refused("fresh", frame_history_fresh(words, WORDS))) return 1;
   if (refused("open", frame_history_open(words, WORDS, 0, &stock, &frame, &hiding))) return 1;
@@ -87,8 +88,8 @@ int main(void) {
   printf("cash sale: frame %u goes, %u rows\n", (unsigned)frame, (unsigned)removed);
   stands(words);
 
-  number = frame_history_visible(words, WORDS, terms, &answer, &hiding);
-  printf("document %u: refused, number %u; the out words still hold %u and %u\n", (unsigned)terms, (unsigned)number, (unsigned)answer,
-         (unsigned)hiding);
-  return number == FRAME_HISTORY_ABSENT && other != terms && answer == 7 && hiding == 7 ? 0 : 1;
+  number = frame_history_visible(words, WORDS, terms, &answer, &hiding, &links);
+  printf("document %u: refused, number %u; the out words still hold %u, %u and %u\n", (unsigned)terms, (unsigned)number, (unsigned)answer,
+         (unsigned)hiding, (unsigned)links);
+  return number == FRAME_HISTORY_ABSENT && other != terms && answer == 7 && hiding == 7 && links == 7 ? 0 : 1;
 }

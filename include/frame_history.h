@@ -108,10 +108,13 @@ uint32_t frame_history_traverse_rows(uint32_t *words, size_t n, int32_t delta, f
 uint32_t frame_history_position(const uint32_t *words, size_t n, uint32_t *position, uint32_t *steps, uint32_t *length);
 
 /* Whether a document is visible, and if it is not, which document hides it.
-   Lent to read: the record. Out: 1 or 0; and `hiding`: the document that hides it, or 4294967295 where the answer is 1. All kept on
-   refusal.
+   Lent to read: the record. Out: 1 or 0; `hiding`: the document that hides it, or 4294967295 where the answer is 1; and `links`: how many
+   parent links were followed to tell. From the document upwards that is none where it is not shown itself, and none above the one that
+   hides it; where the answer is 1 it is the document's depth in the outline. It is never more than the place of the document's row,
+   counted from 0. All kept on refusal.
    Refused: 1, 2, 4. */
-uint32_t frame_history_visible(const uint32_t *words, size_t n, uint32_t document, uint32_t *answer, uint32_t *hiding);
+uint32_t frame_history_visible(const uint32_t *words, size_t n, uint32_t document, uint32_t *answer, uint32_t *hiding,
+                               uint32_t *links);
 
 /* The documents of the taken steps, latest first, and of the upcoming steps, earliest first.
    Lent to read: the record. Lent to write: a run for each list; words past a list are kept.

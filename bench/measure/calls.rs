@@ -55,7 +55,7 @@ pub fn make(face: &Face, call: Call, lent: &mut Lent) -> u32 {
             Call::Traverse(delta) => (face.traverse)(words, count, black_box(delta), first, first_count, a),
             Call::Drop(frame) => (face.drop)(words, count, black_box(frame), a, b),
             Call::Position => (face.position)(words, count, a, b, c),
-            Call::Visible(document) => (face.visible)(words, count, black_box(document), a, b),
+            Call::Visible(document) => (face.visible)(words, count, black_box(document), a, b, c),
             Call::Lists => (face.lists)(words, count, first, first_count, second, second_count, a, b),
             Call::Stretch(delta) => (face.stretch)(first, first_count, second, second_count, black_box(delta), a),
             Call::Outline => (face.outline)(words, count, first, first_count, a),

@@ -13,7 +13,7 @@ pub struct Face {
     pub traverse: unsafe extern "C" fn(Words, usize, i32, Words, usize, Out) -> u32,
     pub drop: unsafe extern "C" fn(Words, usize, u32, Out, Out) -> u32,
     pub position: unsafe extern "C" fn(Read, usize, Out, Out, Out) -> u32,
-    pub visible: unsafe extern "C" fn(Read, usize, u32, Out, Out) -> u32,
+    pub visible: unsafe extern "C" fn(Read, usize, u32, Out, Out, Out) -> u32,
     pub lists: unsafe extern "C" fn(Read, usize, Words, usize, Words, usize, Out, Out) -> u32,
     pub stretch: unsafe extern "C" fn(Read, usize, Read, usize, i32, Out) -> u32,
     pub outline: unsafe extern "C" fn(Read, usize, Words, usize, Out) -> u32,
@@ -28,7 +28,7 @@ extern "C" {
     fn frame_history_traverse(words: Words, count: usize, delta: i32, changes: Words, changes_count: usize, changed: Out) -> u32;
     fn frame_history_drop(words: Words, count: usize, frame: u32, removed: Out, hiding: Out) -> u32;
     fn frame_history_position(words: Read, count: usize, position: Out, steps: Out, length: Out) -> u32;
-    fn frame_history_visible(words: Read, count: usize, document: u32, answer: Out, hiding: Out) -> u32;
+    fn frame_history_visible(words: Read, count: usize, document: u32, answer: Out, hiding: Out, links: Out) -> u32;
     fn frame_history_lists(
         words: Read,
         count: usize,

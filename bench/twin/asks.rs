@@ -1,5 +1,5 @@
 //! The questions: position, visible, lists, stretch.
-use crate::record::{DOCUMENT, Refusal, Stand, examine, find, hider, locate, steps};
+use crate::record::{DOCUMENT, Refusal, Stand, climb, examine, find, locate, steps};
 
 /// Position and steps.
 pub fn position(words: &[u32]) -> Result<(usize, usize), Refusal> {
@@ -7,11 +7,11 @@ pub fn position(words: &[u32]) -> Result<(usize, usize), Refusal> {
     Ok((stand.position, stand.steps))
 }
 
-/// Who hides a document; nobody where it is visible.
-pub fn visible(words: &[u32], document: u32) -> Result<Option<u32>, Refusal> {
+/// Who hides a document, nobody where it is visible; and how many parent links were followed.
+pub fn visible(words: &[u32], document: u32) -> Result<(Option<u32>, usize), Refusal> {
     let rows = examine(words)?;
     let at = find(rows, document).ok_or(Refusal::Absent)?;
-    Ok(hider(rows, at))
+    Ok(climb(rows, at))
 }
 
 /// Stores the steps among the first rows, up to where every frame has begun; that place.

@@ -52,9 +52,10 @@ pub unsafe extern "C" fn position(words: *const u32, count: usize, position: &mu
     answer(asks::position(lent(words, count)), |(p, s)| (*position, *steps, *length) = (p as u32, s as u32, s as u32 + 1))
 }
 
-/// Whether a document is visible, and who hides it.
-pub unsafe extern "C" fn visible(words: *const u32, count: usize, document: u32, seen: &mut u32, hiding: &mut u32) -> u32 {
-    answer(asks::visible(lent(words, count), document), |hider| (*seen, *hiding) = (hider.is_none() as u32, hider.unwrap_or(NONE)))
+/// Whether a document is visible, who hides it, and how many parent links were followed.
+pub unsafe extern "C" fn visible(words: *const u32, count: usize, document: u32, seen: &mut u32, hiding: &mut u32, links: &mut u32) -> u32 {
+    let tell = |(hider, n): (Option<u32>, usize)| (*seen, *hiding, *links) = (hider.is_none() as u32, hider.unwrap_or(NONE), n as u32);
+    answer(asks::visible(lent(words, count), document), tell)
 }
 
 /// Taken and upcoming steps: how many of each.

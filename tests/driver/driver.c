@@ -28,7 +28,7 @@ u32 frame_history_traverse(u32 *words, usize n, i32 delta, u32 *changes, usize c
 u32 frame_history_traverse_rows(u32 *words, usize n, i32 delta, row *rows, usize rows_n, u32 *count);
 u32 frame_history_drop(u32 *words, usize n, u32 frame, u32 *removed, u32 *hiding);
 u32 frame_history_position(const u32 *words, usize n, u32 *position, u32 *steps, u32 *length);
-u32 frame_history_visible(const u32 *words, usize n, u32 document, u32 *answer, u32 *hiding);
+u32 frame_history_visible(const u32 *words, usize n, u32 document, u32 *answer, u32 *hiding, u32 *links);
 u32 frame_history_lists(const u32 *words, usize n, u32 *taken, usize taken_n, u32 *upcoming, usize upcoming_n, u32 *taken_count, u32 *upcoming_count);
 u32 frame_history_stretch(const u32 *taken, usize taken_n, const u32 *upcoming, usize upcoming_n, i32 delta, u32 *count);
 u32 frame_history_outline(const u32 *words, usize n, u32 *pairs, usize pairs_n, u32 *count);
@@ -138,7 +138,7 @@ static u32 call(const u32 *head, u8 **run) {
     return frame_history_traverse(words, n, (i32)number, first, first_n, a);
   case DROP: return frame_history_drop(words, n, number, a, b);
   case POSITION: return frame_history_position(words, n, a, b, c);
-  case VISIBLE: return frame_history_visible(words, n, number, a, b);
+  case VISIBLE: return frame_history_visible(words, n, number, a, b, c);
   case LISTS: return frame_history_lists(words, n, first, first_n, second, second_n, a, b);
   case STRETCH: return frame_history_stretch(first, first_n, second, second_n, (i32)number, a);
   case OUTLINE: return frame_history_outline(words, n, first, first_n, a);

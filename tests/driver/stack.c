@@ -42,7 +42,7 @@ static uint32_t traverse_rows(lent *l) {
   return frame_history_traverse_rows(l->words, l->n, (int32_t)l->number, (frame_history_change_row *)l->first, l->first_n / 4, l->outs);
 }
 static uint32_t position(lent *l) { return frame_history_position(l->words, l->n, l->outs, l->outs + 1, l->outs + 2); }
-static uint32_t visible(lent *l) { return frame_history_visible(l->words, l->n, l->number, l->outs, l->outs + 1); }
+static uint32_t visible(lent *l) { return frame_history_visible(l->words, l->n, l->number, l->outs, l->outs + 1, l->outs + 2); }
 static uint32_t lists(lent *l) {
   return frame_history_lists(l->words, l->n, l->first, l->first_n, l->second, l->second_n, l->outs, l->outs + 1);
 }

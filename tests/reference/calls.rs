@@ -147,10 +147,12 @@ pub fn position(words: &[u32]) -> Answer<(u32, u32, u32)> {
     Ok((position, steps, steps + 1))
 }
 
-/// What the visible question answers: "either that the document is visible or the number of the nearest document [..] that isn't shown".
+/// What the visible question answers: "either that the document is visible or the number of the nearest document [..] that isn't shown",
+/// and "the number of parent links followed".
 #[derive(Clone, Copy, Debug, PartialEq, Eq)]
 pub struct Sight {
     pub hiding: Option<u32>,
+    pub links: u32,
 }
 
 impl Sight {
@@ -168,7 +170,11 @@ pub fn visible(words: &[u32], document: u32) -> Answer<Sight> {
 fn sight(history: &History, document: u32) -> Sight {
     let hiding = history.hiding(document);
     assert_eq!(hiding.is_none(), history.fully_active().contains(&document), "a document is visible or hidden by one that isn't shown");
-    Sight { hiding }
+    // "from the document upwards, none if it isn't shown itself, and no link above the first hidden one"
+    let upwards = history.upwards(document);
+    let links = upwards.iter().position(|d| !d.active).unwrap_or(upwards.len() - 1) as u32;
+    assert!(links <= history.place(document).expect("a document of the record") as u32, "never more than the document's row place");
+    Sight { hiding, links }
 }
 
 /// Answers the counts of taken and of upcoming steps.

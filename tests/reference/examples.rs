@@ -49,9 +49,13 @@ fn documents(words: &[u32]) -> Vec<u32> {
     rows(words).iter().map(|row| row.document).collect()
 }
 
-/// What the visible question answers where a document is hidden by this one.
-fn hid(hiding: u32) -> Answer<Sight> {
-    Ok(Sight { hiding: Some(hiding) })
+/// What the visible question answers where a document is hidden by this one, so many links up; where it is visible.
+fn hid(hiding: u32, links: u32) -> Answer<Sight> {
+    Ok(Sight { hiding: Some(hiding), links })
+}
+
+fn sees(links: u32) -> Answer<Sight> {
+    Ok(Sight { hiding: None, links })
 }
 
 /// Traverse with ample room: the answer and the change rows.
@@ -88,7 +92,7 @@ fn numbered_examples(c: &mut Checks) {
     let mut p3 = x.clone();
     c.same("P3 change rows", go(&mut p3, 1), Ok(vec![1, 1, 5, 1]));
     c.same("P3 4 is shown", shown_documents(&p3).contains(&4), true);
-    c.same("P3 4 is not visible", visible(&p3, 4), hid(1));
+    c.same("P3 4 is not visible", visible(&p3, 4), hid(1, 1));
 
     for (name, delta) in [("P4", 2), ("P4", -2), ("P5", i32::MIN), ("the other end", i32::MAX)] {
         let mut words = x.clone();
@@ -240,15 +244,19 @@ fn hiding_examples(c: &mut Checks) {
     // 1 and 3 are a frame under 0, beneath 1 comes 2 and beneath 2 comes 5; 4 took the place of 0, and 3 that of 1.
     let nested = record(6, 6, 4, &[[0, 0, NONE, 0], [1, 1, 0, 0], [2, 2, 1, 1], [3, 1, 0, 1], [4, 0, NONE, 1], [5, 3, 2, 1]]);
     for (name, document, wanted) in [
-        ("visible", 4, Ok(Sight { hiding: None })),
-        ("hidden by itself, with none above it", 0, hid(0)),
-        ("hidden by itself, and not by its parent", 1, hid(1)),
-        ("hidden by its parent, and not by the farthest", 2, hid(1)),
-        ("hidden by its parent's parent", 5, hid(1)),
-        ("hidden by the root's document", 3, hid(0)),
+        ("visible", 4, sees(0)),
+        ("hidden by itself, with none above it", 0, hid(0, 0)),
+        ("hidden by itself, and not by its parent", 1, hid(1, 0)),
+        ("hidden by its parent, and not by the farthest", 2, hid(1, 1)),
+        ("hidden by its parent's parent", 5, hid(1, 2)),
+        ("hidden by the root's document", 3, hid(0, 1)),
         ("not a document", 6, no(4)),
     ] {
         c.same(name, visible(&nested, document), wanted);
+    }
+    // L6: "the number of parent links followed"; a visible document's are all above it.
+    for (document, links) in [(0, 0), (1, 1), (3, 1), (4, 2)] {
+        c.same("links of a visible document", visible(&record_x(), document), sees(links));
     }
     for (name, document, wanted) in [("own", 1, 1), ("above", 2, 1), ("two above", 5, 1), ("root", 3, 0), ("root itself", 0, 0)] {
         let mut words = nested.clone();

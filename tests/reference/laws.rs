@@ -190,7 +190,9 @@ fn hiding(record: &[u32]) {
         let not_shown: Vec<u32> = all.iter().filter(|row| row.shown == 0 && leads_to(&all, row.document, d)).map(|row| row.document).collect();
         let nearest = not_shown.iter().copied().find(|&h| not_shown.iter().all(|&e| leads_to(&all, e, h)));
         assert_eq!(nearest.is_none(), active.contains(&d), "hidden exactly where not fully active");
-        assert_eq!(visible(record, d), Ok(Sight { hiding: nearest }), "the nearest that isn't shown");
+        let above = |row: &&Row| row.document != d && leads_to(&all, row.document, d) && nearest.is_none_or(|h| leads_to(&all, h, row.document));
+        let links = all.iter().filter(above).count() as u32;
+        assert_eq!(visible(record, d), Ok(Sight { hiding: nearest, links }), "the nearest that isn't shown, and a link for each document up to it");
         let carried = |refusal: Option<Refusal>| refusal.filter(|refusal| refusal.number == 5).and_then(|refusal| refusal.hiding);
         assert_eq!(carried(open(&mut record.to_vec(), d).err()), nearest, "refusal 5 carries it");
         assert_eq!(carried(navigate(&mut record.to_vec(), d).err()), nearest, "refusal 5 carries it");

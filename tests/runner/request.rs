@@ -122,7 +122,7 @@ impl Request {
             Call::Traverse => vec![calls::traverse(words, self.number as i32, first)?],
             Call::Drop => vec![calls::drop_frame(words, self.number)?],
             Call::Position => calls::position(words).map(|(position, steps, length)| vec![position, steps, length])?,
-            Call::Visible => calls::visible(words, self.number).map(|sight| vec![sight.visible() as u32, sight.hiding.unwrap_or(NONE)])?,
+            Call::Visible => calls::visible(words, self.number).map(|sight| vec![sight.visible() as u32, sight.hiding.unwrap_or(NONE), sight.links])?,
             Call::Lists => calls::lists(words, first, second).map(|(taken, upcoming)| vec![taken, upcoming])?,
             Call::Stretch => vec![calls::stretch(first, second, self.number as i32)?.len() as u32],
             Call::Outline => vec![calls::outline(words, first)?],

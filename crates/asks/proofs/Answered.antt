@@ -54,8 +54,8 @@ module _ (words : List ℕ) (k : Survey) (e : k ≡ surveyOf words) where
 module _ (words : List ℕ) (e : Examined words) where
   by-sight : (d : ℕ) (s : Sight) → SightIs (rowsOf words) d s → outcome (Call.Visible words d) ≡ record { answer = sightIs s; lent = [] }
   unfolding outcome refusals accepted ladder visible
-  by-sight d Visible i = rw (e .long, e .passes, i .0, i .1) refl
-  by-sight d (Hidden h) i = rw (e .long, e .passes, i .0, i .1) refl
+  by-sight d (Visible n) i = rw (e .long, e .passes, i .0, i .1, i .2) refl
+  by-sight d (Hidden h n) i = rw (e .long, e .passes, i .0, i .1, i .2) refl
   by-sight d (Refused r) i = rw (e .long, e .passes, i .0, i .1) refl
 
   pub visible-given : (d : ℕ) (s : Sight) → s ≡ sightOf (readableRows words) d → outcome (Call.Visible words d) ≡ record { answer = sightIs s; lent = [] }

@@ -1,5 +1,5 @@
 -- The climb, by the ways that it goes. Assumes nothing.
-use Prim.Native.Nat.{ℕ, _≤_, _<_}
+use Prim.Native.Nat.{ℕ, _+_, _/_, _%_, _≤_, _<_}
 use mathlib.Core.Bool.{Bool, true, false}
 use mathlib.Core.List.{List}
 use mathlib.Core.Path.{_≡_, refl, sym, ap, subst, _∙_}
@@ -10,17 +10,18 @@ use borrow.Author.Tests.{eq-eqb, ne-eqb, eqb-true, lt-ltb, le-ltb}
 use Rattle.base.specs.declared.RowPlace.{RowPlace}
 use Rattle.base.specs.declared.Refusal.the-variants.{Absent}
 use Rattle.rules.specs.Rows.{Row, noRow, none, rowAt, docAt, parentAt, isShown, isDoc, inRecord, climb}
-use Rattle.rules.specs.Steps.{Hider, isNobody, hiderAsk, lost, hiderAt, hiderOf, visibleAt}
+use Rattle.rules.specs.Steps.{Hider, isNobody, Climb, ended, further, climbAsk, lost, climbAt, climbOf, hiderAt, hiderOf, visibleAt}
 use Rattle.rules.specs.Words.{capacity, rowsOf}
 use Rattle.laws.proofs.Tests.{test, clash, some-in, some-out, greatest, latest-is}
-use Rattle.laws.proofs.Climb.{climb-none, climb-found}
+use Rattle.laws.proofs.Climb.{climb-none, climb-found, climbs-itself, climbs-nobody, links-at}
 use Rattle.reads.specs.Found.{foundBelow}
 use Rattle.reads.specs.declared.Found.{Found}
 use Rattle.reads.specs.declared.Found.the-variants.{At, Nothing}
+use Rattle.reads.specs.Within.{Within}
 use Rattle.reads.proofs.Scans.{found-at, found-lower, found-nothing}
 use Rattle.rows.specs.Readable.{readableRows}
 use Rattle.rows.proofs.Readable.{readable-rows, readable-within}
-use Rattle.asks.specs.Answers.{hiderBy, Coded, sightBy, sightOf, SightIs}
+use Rattle.asks.specs.Answers.{hiderBy, Means, Coded, sightBy, sightOf, SightIs}
 use Rattle.asks.specs.declared.Sight.{Sight}
 use Rattle.asks.specs.declared.Sight.the-variants.{Refused}
 
@@ -38,57 +39,81 @@ module _ {A : Type 0} (lost : A) (ask : (ℕ → A) → ℕ → A) (rows : List 
   climb-lost e = climb-none lost ask rows k d (λ j l h. clash (some-in (isDoc rows d) k l (eq-eqb _ _ h)) (found-nothing (isDoc rows d) k e))
 
 module _ (rows : List Row) (k : ℕ) (s : Bool) (shown : s ≡ isShown rows k) where
-  pub hidden-ends : s ≡ false → hiderAt rows k ≡ Hider.document (docAt rows k)
-  unfolding hiderAt
-  hidden-ends f = rw (sym shown ∙ f) refl
+  pub hidden-ends : s ≡ false → climbAt rows k ≡ ended (Hider.document (docAt rows k))
+  hidden-ends f = climbs-itself rows k (sym shown ∙ f)
 
   module _ (up : ℕ) (t : s ≡ true) (named : up ≡ parentAt rows k) where
-    pub root-ends : up ≡ none → hiderAt rows k ≡ Hider.nobody
-    unfolding hiderAt
-    root-ends e = rw (sym shown ∙ t, eq-eqb (parentAt rows k) none (sym named ∙ e)) refl
+    pub root-ends : up ≡ none → climbAt rows k ≡ ended Hider.nobody
+    root-ends e = climbs-nobody rows k (sym shown ∙ t) (sym named ∙ e)
 
     module _ (f : Found) (ne : up ≡ none → ⊥) (scan : f ≡ foundBelow (isDoc rows up) k) where
-      goes-up : hiderAt rows k ≡ climb lost (hiderAsk rows) rows k up
-      unfolding hiderAt
-      goes-up = rw (sym shown ∙ t, ne-eqb (parentAt rows k) none (λ z. ne (named ∙ z))) (ap (climb lost (hiderAsk rows) rows k) (sym named))
+      goes-up : climbAt rows k ≡ further (climb lost (climbAsk rows) rows k up)
+      unfolding climbAt
+      goes-up = rw (sym shown ∙ t, ne-eqb (parentAt rows k) none (λ z. ne (named ∙ z))) (ap (λ d. further (climb lost (climbAsk rows) rows k d)) (sym named))
 
-      pub climb-goes : (q : RowPlace) → f ≡ At q → hiderAt rows k ≡ hiderAt rows (q .0)
-      unfolding hiderAt
-      climb-goes q g = goes-up ∙ climb-at lost (hiderAsk rows) rows k up q (sym scan ∙ g)
+      pub climb-goes : (q : RowPlace) → f ≡ At q → climbAt rows k ≡ further (climbAt rows (q .0))
+      unfolding climbAt
+      climb-goes q g = goes-up ∙ ap further (climb-at lost (climbAsk rows) rows k up q (sym scan ∙ g))
 
-      pub lost-ends : f ≡ Nothing → hiderAt rows k ≡ lost
-      lost-ends g = goes-up ∙ climb-lost lost (hiderAsk rows) rows k up (sym scan ∙ g)
+      pub lost-ends : f ≡ Nothing → climbAt rows k ≡ further lost
+      lost-ends g = goes-up ∙ ap further (climb-lost lost (climbAsk rows) rows k up (sym scan ∙ g))
 
--- A number that means a document, that means nobody, and who is meant.
-pub coded-document : (h : Hider) (d code : ℕ) → h ≡ Hider.document d → code ≡ d → code < 4294967296 → Coded h code
-coded-document h d code e g l = rw e (g, l)
+-- The number of a climb that ends with a document, or with nobody, and of one a link further.
+ends-with : (h : Hider) (code : ℕ) → code < 8589934592 → Means h code → Coded (ended h) code
+ends-with h code l m =
+    let z : code % 8589934592 ≡ code = omega arith in
+    record { far = omega arith; who = subst (Means h) (sym z) m }
 
-pub coded-nobody : (h : Hider) → h ≡ Hider.nobody → Coded h 4294967296
-coded-nobody h e = rw e refl
+ends-document : (d code : ℕ) → code ≡ d → code < 4294967296 → Coded (ended (Hider.document d)) code
+ends-document d code e l = ends-with (Hider.document d) code (omega arith) (e, l)
 
-pub coded-same : (h g : Hider) (code : ℕ) → h ≡ g → Coded g code → Coded h code
-coded-same h g code e c = subst (λ x. Coded x code) (sym e) c
+goes-further : (c : Climb) (code : ℕ) → Coded c code → Coded (further c) (8589934592 + code)
+goes-further c code e =
+    let z : (8589934592 + code) % 8589934592 ≡ code % 8589934592 = omega arith in
+    record { far = omega (arith, e .far); who = subst (Means (c .hider)) (sym z) (e .who) }
 
-coded-is : (h : Hider) (code : ℕ) → Coded h code → hiderBy code ≡ h
-coded-is Hider.nobody code c = rw (c) refl
-coded-is (Hider.document d) code c = rw (lt-ltb code 4294967296 (c .1)) (ap Hider.document (c .0))
+module _ (c : Climb) where
+  pub coded-document : (d code : ℕ) → c ≡ ended (Hider.document d) → code ≡ d → code < 4294967296 → Coded c code
+  coded-document d code e g l = subst (λ x. Coded x code) (sym e) (ends-document d code g l)
 
-pub means-document : (code : ℕ) → code < 4294967296 → Hider.document code ≡ hiderBy code
-means-document code l = rw (lt-ltb code 4294967296 l) refl
+  pub coded-nobody : c ≡ ended Hider.nobody → Coded c 4294967296
+  coded-nobody e = subst (λ x. Coded x 4294967296) (sym e) (ends-with Hider.nobody 4294967296 (omega arith) refl)
+
+  pub coded-further : (g : Climb) (code : ℕ) → c ≡ further g → Coded g code → Coded c (8589934592 + code)
+  coded-further g code e h = subst (λ x. Coded x (8589934592 + code)) (sym e) (goes-further g code h)
+
+  pub coded-lost : (code : ℕ) → c ≡ further lost → code ≡ none → code < 4294967296 → Coded c (8589934592 + code)
+  coded-lost code e g l = coded-further lost code e (ends-document none code g l)
+
+-- One link more can be counted, since there are few rows.
+pub link-fits : (words : List ℕ) (i code : ℕ) → Within words i → Coded (climbAt (rowsOf words) i) code → 8589934592 + code < 8804682956800
+unfolding climbAt
+link-fits words i code w c = omega (arith, c .far, links-at (rowsOf words) i, w .fits, w .below)
+
+-- Who is meant.
+means-is : (h : Hider) (code : ℕ) → Means h code → hiderBy code ≡ h
+means-is Hider.nobody code m = rw m refl
+means-is (Hider.document d) code m = rw (lt-ltb code 4294967296 (m .1)) (ap Hider.document (m .0))
+
+pub means-document : (code m : ℕ) → m ≡ code → code < 4294967296 → Hider.document m ≡ hiderBy code
+means-document code m e l = rw (lt-ltb code 4294967296 l, e) refl
 
 pub means-nobody : (code : ℕ) → 4294967296 ≤ code → Hider.nobody ≡ hiderBy code
 means-nobody code l = rw (le-ltb code 4294967296 l) refl
 
 -- Past the rows that can be read, and among them.
 module _ (words : List ℕ) (n i : ℕ) (count : n ≡ length (readableRows words)) where
-  pub hiding-past : n ≤ i → Hider.document 0 ≡ hiderAt (readableRows words) i
-  hiding-past l =
+  pub climbed-past : n ≤ i → Coded (climbAt (readableRows words) i) 0
+  climbed-past l =
       let nothing : rowAt (readableRows words) i ≡ noRow = List·getD-eq-default (readableRows words) noRow (omega arith) in
-      ap (λ (r : Row). Hider.document (r .doc)) (sym nothing) ∙ sym (hidden-ends (readableRows words) i false (sym (ap (λ r. eqb (r .shown) 1) nothing)) refl)
+      coded-document _ 0 0 (climbs-itself (readableRows words) i (ap (λ r. eqb (r .shown) 1) nothing) ∙ ap (λ (r : Row). ended (Hider.document (r .doc))) nothing) refl (omega arith)
 
-  pub hiding-within : (code : ℕ) (h : Hider) → i < n → Coded (hiderAt (rowsOf words) i) code → h ≡ hiderBy code → h ≡ hiderAt (readableRows words) i
-  hiding-within code h l c e =
-      e ∙ coded-is (hiderAt (rowsOf words) i) code c ∙ ap (λ rows. hiderAt rows i) (sym (readable-rows words (readable-within words i (omega arith) .fits)))
+  pub climbed-within : (code : ℕ) → i < n → Coded (climbAt (rowsOf words) i) code → Coded (climbAt (readableRows words) i) code
+  climbed-within code l c = subst (λ rows. Coded (climbAt rows i) code) (sym (readable-rows words (readable-within words i (omega arith) .fits))) c
+
+pub hiding-is : (rows : List Row) (i code : ℕ) (h : Hider) → Coded (climbAt rows i) code → h ≡ hiderBy (code % 8589934592) → h ≡ hiderAt rows i
+unfolding hiderAt
+hiding-is rows i code h c e = e ∙ means-is (climbAt rows i .hider) (code % 8589934592) (c .who)
 
 -- By who hides it.
 pub climb-by : (rows : List Row) (i : ℕ) (h : Hider) → h ≡ hiderAt rows i → isNobody h ≡ visibleAt rows i
@@ -106,13 +131,17 @@ module _ (words : List ℕ) (d : ℕ) (f : Found) (scan : f ≡ foundBelow (isDo
     unfolding inRecord
     here = found-at (isDoc (readableRows words) d) (length (readableRows words)) q (sym scan ∙ e) .0
 
-    there : hiderOf (readableRows words) d ≡ hiderAt (readableRows words) (q .0)
-    unfolding hiderOf hiderAt
-    there = climb-at lost (hiderAsk (readableRows words)) (readableRows words) (length (readableRows words)) d q (sym scan ∙ e)
+    there : climbOf (readableRows words) d ≡ climbAt (readableRows words) (q .0)
+    unfolding climbOf climbAt
+    there = climb-at lost (climbAsk (readableRows words)) (readableRows words) (length (readableRows words)) d q (sym scan ∙ e)
 
-    pub seen-by : (h : Hider) → h ≡ hiderAt (readableRows words) (q .0) → sightBy h ≡ sightOf (readableRows words) d
-    unfolding sightOf
-    seen-by h g = rw (here, there ∙ sym g) refl
+    pub seen-by : (code : ℕ) (h : Hider) (n : ℕ) → Coded (climbAt (readableRows words) (q .0)) code → h ≡ hiderBy (code % 8589934592) → n ≡ code / 8589934592 →
+        sightBy h n ≡ sightOf (readableRows words) d
+    unfolding sightOf hiderOf hiderAt
+    seen-by code h n c g far =
+        let who : climbOf (readableRows words) d .hider ≡ h = ap (λ x. x .hider) there ∙ sym (hiding-is (readableRows words) (q .0) code h c g) in
+        let links : climbOf (readableRows words) d .links ≡ n = ap (λ x. x .links) there ∙ sym (c .far) ∙ sym far in
+        rw (here, who, links) refl
 
 -- What is seen of a record that has room for its rows.
 pub seen-is : (words : List ℕ) (d : ℕ) → length (rowsOf words) ≤ capacity words → (s : Sight) → s ≡ sightOf (readableRows words) d → SightIs (rowsOf words) d s
@@ -122,6 +151,6 @@ seen-is words d l s e =
     subst (SightIs rows d) (sym (e ∙ ap (λ rows. sightOf rows d) (readable-rows words l)))
     (test (inRecord rows d) (λ h. rw h (by (hiderOf rows d) refl h)) (λ h. rw h (h, refl)))
   where
-    by : (h : Hider) → hiderOf (rowsOf words) d ≡ h → inRecord (rowsOf words) d ≡ true → SightIs (rowsOf words) d (sightBy h)
-    by Hider.nobody e t = (t, e)
-    by (Hider.document h) e t = (t, e)
+    by : (h : Hider) → hiderOf (rowsOf words) d ≡ h → inRecord (rowsOf words) d ≡ true → SightIs (rowsOf words) d (sightBy h (climbOf (rowsOf words) d .links))
+    by Hider.nobody e t = (t, e, refl)
+    by (Hider.document h) e t = (t, e, refl)

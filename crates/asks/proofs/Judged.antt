@@ -37,15 +37,15 @@ module _ (words : List ℕ) (e : Examined words) (d : ℕ) (rest : List Rung) (s
   unfolding Given
   not-there r f = let t = tells (Sights.Refused r) f in examined-past words e middle (No r) (inl (rw (t .0) refl, sym (ap numberOf (t .1)), sym (ap carriedBy (t .1))))
 
-  pub not-shown : (h : DocNo) → s ≡ Sights.Hidden h → Settles table (No (Hidden h))
+  pub not-shown : (h : DocNo) (n : ℕ) → s ≡ Sights.Hidden h n → Settles table (No (Hidden h))
   unfolding Given visible
-  not-shown h f =
-      let t = tells (Sights.Hidden h) f in
+  not-shown h n f =
+      let t = tells (Sights.Hidden h n) f in
       examined-past words e middle (No (Hidden h)) (settles-past (4 when absent words d) lower (rw (t .0) refl) (No (Hidden h)) (inl (rw (t .1) refl, refl, rw (t .1) refl)))
 
   -- A visible document leaves it to the rest of the table.
-  pub shown-there : s ≡ Sights.Visible → (k : Check) → Settles rest k → Settles table k
+  pub shown-there : (n : ℕ) → s ≡ Sights.Visible n → (k : Check) → Settles rest k → Settles table k
   unfolding visible
-  shown-there f k h =
-      let t = tells Sights.Visible f in
+  shown-there n f k h =
+      let t = tells (Sights.Visible n) f in
       examined-past words e middle k (settles-past (4 when absent words d) lower (rw (t .0) refl) k (settles-past (5 when hidden words d naming hider words d) rest (rw (t .1) refl) k h))

@@ -11,8 +11,8 @@ use sound::Survey;
 ghost use mathlib.Core.Path.{_≡_};
 ghost use mathlib.Core.List.{[], _∷_};
 ghost use lib.ListN.{length};
-ghost use Prim.Native.Nat.{_-_, _≤_, _<_, max};
-ghost use Rattle.rules.specs.Steps.{hiderAt, visibleAt};
+ghost use Prim.Native.Nat.{_-_, _/_, _%_, _≤_, _<_, max};
+ghost use Rattle.rules.specs.Steps.{climbAt, hiderAt, visibleAt};
 ghost use Rattle.rules.specs.Words.{rowsOf};
 ghost use Rattle.rules.specs.Asks.{ownList, stretched};
 ghost use Rattle.rules.specs.Calls.{Call, outcome};
@@ -38,10 +38,10 @@ pub fn position(words: &[u32]) -> Standing
     }
 }
 
-// Whether a document can be seen, and if not, who hides it.
+// Whether a document can be seen, and if not, who hides it; and how many parent links were followed to tell.
 pub enum Sight {
-    Visible,
-    Hidden(DocNo),
+    Visible(usize),
+    Hidden(DocNo, usize),
     Refused(Refusal),
 }
 
@@ -54,6 +54,9 @@ pub enum Hider {
 // Nobody, as a number: the first that no document has.
 const NOBODY: u64 = 4294967296;
 
+// A parent link, as a number: beyond every document and nobody, so that a climb is one number, its links and who it ends with.
+const LINK: u64 = 8589934592;
+
 // The number of a document, in a wider type.
 fn wide(d: DocNo) -> u64
     ensures { λ r. ⌜ (r ≡ d .0) × (r < 4294967296) ⌝ }
@@ -61,10 +64,10 @@ fn wide(d: DocNo) -> u64
     d.0 as u64
 }
 
-// Who hides a row's document: itself, if it is not shown; once it is, the question goes to its parent.
+// The climb from a row: it ends with the row itself, if that is not shown; once it is, the question goes to its parent, one link further.
 fn ascend(words: &&[u32], at: RowPlace) -> u64
     requires { ⌜ Within (now (now words)) (at .0) ⌝ }
-    ensures { λ r. ⌜ Coded (hiderAt (rowsOf (now (now (words .entry)))) (at .0)) r ⌝ }
+    ensures { λ r. ⌜ Coded (climbAt (rowsOf (now (now (words .entry)))) (at .0)) r ⌝ }
 {
     // The words come behind a second reference, and the answer is one number: a header that is copied at each call, or an answer that is handed back
     // through memory, would keep the compiler from making a loop of it.
@@ -77,29 +80,44 @@ fn ascend(words: &&[u32], at: RowPlace) -> u64
         return NOBODY;
     }
     match reads::find_below(here, at, up) {
-        Found::At(above) => ascend(words, above),
-        Found::Nothing => wide(DocNo(NONE)),
+        Found::At(above) => LINK + ascend(words, above),
+        Found::Nothing => LINK + wide(DocNo(NONE)),
     }
 }
 
-// Who is meant by a number.
-fn told(code: u64) -> Hider
-    ensures { λ r. ⌜ hiderIs r ≡ hiderBy code ⌝ }
+// The climb from any place: past the rows that the words hold it ends at once.
+fn climbed(words: &[u32], at: RowPlace) -> u64
+    ensures { λ r. ⌜ Coded (climbAt (readableRows (now (words .entry))) (at .0)) r ⌝ }
 {
-    if code < NOBODY {
-        return Hider::Document(DocNo(code as u32));
+    if rows::readable_count(words) <= at.0 {
+        return 0;
+    }
+    ascend(&words, at)
+}
+
+// Who a climb ends with.
+fn told(code: u64) -> Hider
+    ensures { λ r. ⌜ hiderIs r ≡ hiderBy (code % 8589934592) ⌝ }
+{
+    let h = code % LINK;
+    if h < NOBODY {
+        return Hider::Document(DocNo(h as u32));
     }
     Hider::Nobody
 }
 
-// Who hides the document at any place: past the rows that the words hold there is nothing to see.
+// How many links a climb has followed.
+fn links(code: u64) -> usize
+    ensures { λ r. ⌜ r ≡ code / 8589934592 ⌝ }
+{
+    (code / LINK) as usize
+}
+
+// Who hides the document at any place.
 pub fn hiding(words: &[u32], at: RowPlace) -> Hider
     ensures { λ r. ⌜ hiderIs r ≡ hiderAt (readableRows (now (words .entry))) (at .0) ⌝ }
 {
-    if rows::readable_count(words) <= at.0 {
-        return Hider::Document(DocNo(0));
-    }
-    told(ascend(&words, at))
+    told(climbed(words, at))
 }
 
 // Whether the document at any place is visible.
@@ -112,20 +130,24 @@ pub fn climb(words: &[u32], at: RowPlace) -> bool
     }
 }
 
-// Whether a document is there, whether it is visible, and who hides it.
+// Whether a document is there, whether it is visible, who hides it, and how far the climb went.
 pub fn seen(words: &[u32], d: DocNo) -> Sight
     ensures { λ r. ⌜ r ≡ sightOf (readableRows (now (words .entry))) (d .0) ⌝ }
 {
     match rows::find(words, d) {
         Found::Nothing => Sight::Refused(Refusal::Absent),
-        Found::At(at) => match hiding(words, at) {
-            Hider::Nobody => Sight::Visible,
-            Hider::Document(h) => Sight::Hidden(h),
-        },
+        Found::At(at) => {
+            let code = climbed(words, at);
+            let n = links(code);
+            match told(code) {
+                Hider::Nobody => Sight::Visible(n),
+                Hider::Document(h) => Sight::Hidden(h, n),
+            }
+        }
     }
 }
 
-// Whether a document is visible, and if not, who hides it.
+// Whether a document is visible, and if not, who hides it; and how many parent links were followed to tell.
 pub fn visible(words: &[u32], d: DocNo) -> Sight
     ensures { λ r. ⌜ outcome (Call.Visible (now (words .entry)) (d .0)) ≡ record { answer = sightIs r; lent = [] } ⌝ }
 {

@@ -138,17 +138,27 @@ fn go(words: &mut [u32], delta: i32) {
     }
 }
 
+// How many links a climb followed.
+fn say_links(n: usize) {
+    say(b", links ");
+    say_number(n as u64);
+    say(b"\n");
+}
+
 // Visible, told.
 fn ask(words: &[u32], d: u32) {
     say(b"  visible ");
     say_word(d);
     say(b": ");
     match asks::visible(words, DocNo(d)) {
-        Sight::Visible => say(b"yes\n"),
-        Sight::Hidden(h) => {
+        Sight::Visible(n) => {
+            say(b"yes");
+            say_links(n);
+        }
+        Sight::Hidden(h, n) => {
             say(b"hidden by ");
             say_word(h.0);
-            say(b"\n");
+            say_links(n);
         }
         Sight::Refused(r) => say_refused(r),
     }
@@ -157,7 +167,7 @@ fn ask(words: &[u32], d: u32) {
 // A document, if it is visible.
 fn say_visible(words: &[u32], d: u32) {
     match asks::visible(words, DocNo(d)) {
-        Sight::Visible => {
+        Sight::Visible(_) => {
             say(b" ");
             say_number(d as u64);
         }

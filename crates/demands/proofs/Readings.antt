@@ -11,7 +11,7 @@ use lib.ListN.{length, getD, replicate, List·getD-eq-default}
 use borrow.Author.Tests.{eqb-true, eq-eqb, leb-true, le-leb, le-ltb, not-true}
 use Rattle.rules.specs.Below.{someBelow, allBelow, count, earliest, latest, tab, gather}
 use Rattle.rules.specs.Rows.{Row, Table, none, docAt, frameAt, isShown, inRecord, place, isFrame, withFlags, climb}
-use Rattle.rules.specs.Steps.{step, reach, taken, position, steps, hiderOf, visible}
+use Rattle.rules.specs.Steps.{step, reach, taken, position, steps, climbOf, hiderOf, visible}
 use Rattle.rules.specs.Moves.{gone, without, hide, navigated, show, forward, backTarget, rowBefore, back, walked, shownDoc, changeRow, changes}
 use Rattle.rules.specs.Words.{put, tableOf, rowsOf, wordsOf, written}
 use Rattle.rules.specs.Sound.{soundTable?, sound?, Sound}
@@ -57,7 +57,7 @@ ten-sound = sound-is ten .0 refl
 
 -- "P11 shows a shown document deleted": navigating from 1 removes 2 and with it 3, and -1 does not bring 3 back.
 pub back-does-not-restore : BackRestoresShown → ⊥
-unfolding someBelow allBelow count earliest latest tab gather inRecord place isFrame withFlags climb step reach position steps hiderOf visible
+unfolding someBelow allBelow count earliest latest tab gather inRecord place isFrame withFlags climb step reach position steps climbOf hiderOf visible
     gone without hide navigated show backTarget rowBefore back walked shownDoc changeRow changes
     put tableOf wordsOf written soundTable? sound? refusals accepted ladder outcome flatMap
 back-does-not-restore claim =
@@ -69,7 +69,7 @@ abbrev five : Table
 five = record { rows = row 0 0 none 1 ∷ row 1 1 0 1 ∷ row 2 2 0 1 ∷ row 3 1 0 0 ∷ []; nextDoc = 4; nextFrame = 3 }
 
 pub own-future-not-enough : OwnFutureEnough → ⊥
-unfolding someBelow allBelow count earliest latest tab gather inRecord place withFlags climb step reach hiderOf visible gone without hide soundTable?
+unfolding someBelow allBelow count earliest latest tab gather inRecord place withFlags climb step reach climbOf hiderOf visible gone without hide soundTable?
 own-future-not-enough claim =
     let s7 = claim 8 five 2 (sound-table-is 8 five .0 refl) refl in
     omega (arith, s7 .later 3 4 (omega arith) (omega arith) refl refl refl)
@@ -102,7 +102,7 @@ two =
     (record { rows = row 0 0 none 1 ∷ row 1 1 0 0 ∷ row 2 2 0 1 ∷ row 3 1 0 1 ∷ row 4 2 0 0 ∷ []; nextDoc = 5; nextFrame = 3 })
 
 pub taken-may-not-go : AnyDrop → ⊥
-unfolding someBelow allBelow count earliest latest tab gather inRecord place isFrame withFlags climb step reach position steps hiderOf visible
+unfolding someBelow allBelow count earliest latest tab gather inRecord place isFrame withFlags climb step reach position steps climbOf hiderOf visible
     gone without show forward walked shownDoc changeRow changes parentOf isNavigation someNavigation
     put tableOf wordsOf written soundTable? sound? refusals accepted ladder outcome run flatMap
 taken-may-not-go claim =
@@ -114,7 +114,7 @@ abbrev one : List ℕ
 one = written (replicate 11 0) (record { rows = row 0 0 none 1 ∷ row 1 1 0 1 ∷ []; nextDoc = 2; nextFrame = 2 })
 
 pub gone-not-as-noted : GoneAsNoted → ⊥
-unfolding someBelow allBelow count earliest latest tab gather inRecord place isFrame withFlags climb step reach position steps hiderOf visible
+unfolding someBelow allBelow count earliest latest tab gather inRecord place isFrame withFlags climb step reach position steps climbOf hiderOf visible
     gone without parentOf isNavigation someNavigation put tableOf wordsOf written soundTable? sound? refusals accepted ladder outcome run flatMap
 gone-not-as-noted claim =
     let moves = Move.drops 1 ∷ [] in
@@ -165,7 +165,7 @@ abbrev underHidden : Table
 underHidden = record { rows = row 0 0 none 1 ∷ row 1 1 0 0 ∷ row 2 2 1 1 ∷ row 3 1 0 1 ∷ row 4 2 1 0 ∷ []; nextDoc = 5; nextFrame = 3 }
 
 pub visible-futures-not-enough : VisibleFuturesEnough → ⊥
-unfolding someBelow allBelow count climb step reach hiderOf visible soundTable?
+unfolding someBelow allBelow count climb step reach climbOf hiderOf visible soundTable?
 visible-futures-not-enough claim =
     let rows = underHidden .rows in
     let s = sound-table-is 8 underHidden .0 refl in

@@ -5,7 +5,7 @@ use mathlib.Core.Logic.{_↔_, _⊎_, _≢_}
 use mathlib.Core.Bool.{false, So}
 use mathlib.Core.Path.{_≡_}
 use Rattle.rules.specs.Rows.{none, inRecord}
-use Rattle.rules.specs.Steps.{Hider, hiderOf, visible}
+use Rattle.rules.specs.Steps.{Hider, climbOf, hiderOf, visible}
 use Rattle.rules.specs.Words.{rowsOf}
 use Rattle.rules.specs.Calls.{Call, Answer, outcome}
 use Rattle.demands.specs.Refuses.{Nearest, ParentNearest, One}
@@ -15,8 +15,8 @@ pub record HidesRightly (words : List ℕ) : Type 0 where
   -- "The visible question should answer either that the document is visible or the number of the nearest document, itself first and then upwards, that
   -- isn't shown."
   pub asked : (d : ℕ) → So (inRecord (rowsOf words) d) →
-      ((outcome (Call.Visible words d) .answer ≡ Answer.gives (1 ∷ none ∷ [])) × So (visible (rowsOf words) d))
-      ⊎ ((h : ℕ) × (outcome (Call.Visible words d) .answer ≡ Answer.gives (0 ∷ h ∷ [])) × Nearest (rowsOf words) d h)
+      ((outcome (Call.Visible words d) .answer ≡ Answer.gives (1 ∷ none ∷ climbOf (rowsOf words) d .links ∷ [])) × So (visible (rowsOf words) d))
+      ⊎ ((h : ℕ) × (outcome (Call.Visible words d) .answer ≡ Answer.gives (0 ∷ h ∷ climbOf (rowsOf words) d .links ∷ [])) × Nearest (rowsOf words) d h)
   -- The climb finds that document,
   pub hider-nearest : (d h : ℕ) → So (inRecord (rowsOf words) d) → hiderOf (rowsOf words) d ≡ Hider.document h → Nearest (rowsOf words) d h
   -- and nobody exactly when the document is visible.

@@ -4,6 +4,7 @@ pub mod Standing
 pub mod Past
 pub mod Refuses
 pub mod Hides
+pub mod Links
 pub mod Saving
 pub mod Model
 pub mod Follows

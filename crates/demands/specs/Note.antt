@@ -5,7 +5,7 @@ use mathlib.Core.Bool.{false, So}
 use mathlib.Core.Path.{_≡_}
 use lib.ListN.{length}
 use Rattle.rules.specs.Rows.{docAt, inRecord, isFrame, flag}
-use Rattle.rules.specs.Steps.{taken, position, steps, scriptLength, visible}
+use Rattle.rules.specs.Steps.{taken, position, steps, scriptLength, visible, climbOf}
 use Rattle.rules.specs.Words.{rowsOf}
 use Rattle.rules.specs.Sound.{Sound}
 use Rattle.rules.specs.Calls.{Call, Answer, hider, outcome}
@@ -17,11 +17,12 @@ abbrev pub positionIn : List ℕ → ℕ
 positionIn words = position (rowsOf words)
 
 -- What is noted is what the calls answer: "Position answers position, steps, and length for scripts"; "the visible question should answer either that the
--- document is visible or the number of the nearest document, itself first and then upwards, that isn't shown" (document 02, L4): yes, or no and that number.
+-- document is visible or the number of the nearest document, itself first and then upwards, that isn't shown" (document 02, L4): yes, or no and that number,
+-- and then "the number of parent links followed" (L6).
 pub record Noted (words : List ℕ) : Type 0 where
   pub position-asked : outcome (Call.Position words) .answer ≡ Answer.gives (positionIn words ∷ steps (rowsOf words) ∷ scriptLength (rowsOf words) ∷ [])
   pub visible-asked : (d : ℕ) → So (inRecord (rowsOf words) d) →
-      outcome (Call.Visible words d) .answer ≡ Answer.gives (flag (visible (rowsOf words) d) ∷ hider words d ∷ [])
+      outcome (Call.Visible words d) .answer ≡ Answer.gives (flag (visible (rowsOf words) d) ∷ hider words d ∷ climbOf (rowsOf words) d .links ∷ [])
 
 -- Document d "is one of the noted position's taken steps".
 abbrev pub TakenStep : List ℕ → ℕ → Type 0

@@ -97,8 +97,8 @@ standing-injective =
 
 pub sight-injective : Injective sightIs
 sight-injective =
-    told-back sightIs (λ v. cond (eqb (getD v 0 0) 1) Sights.Visible (Sights.Hidden (record { 0 = getD v 1 0 }))) Sights.Refused
-    λ r. elim r [ Sights.Visible ↦ refl | Sights.Hidden d ↦ refl | Sights.Refused k ↦ ap Sights.Refused (refusal-back k) ]
+    told-back sightIs (λ v. cond (eqb (getD v 0 0) 1) (Sights.Visible (getD v 2 0)) (Sights.Hidden (record { 0 = getD v 1 0 }) (getD v 2 0))) Sights.Refused
+    λ r. elim r [ Sights.Visible n ↦ refl | Sights.Hidden d n ↦ refl | Sights.Refused k ↦ ap Sights.Refused (refusal-back k) ]
 
 pub listed-injective : Injective listedIs
 listed-injective =

@@ -10,7 +10,7 @@ use mir.Syntax.{w32}
 use mir.Val.{SFits}
 use borrow.Author.Tests.{ltb-false, not-false}
 use Rattle.rules.specs.Rows.{Row, Table, none}
-use Rattle.rules.specs.Steps.{position, steps, scriptLength}
+use Rattle.rules.specs.Steps.{position, steps, scriptLength, climbOf}
 use Rattle.rules.specs.Moves.{walked, dropped, frames, changeRow, changes, shownDoc}
 use Rattle.rules.specs.Words.{capacity, tableOf, rowsOf}
 use Rattle.rules.specs.Asks.{takenList, upcomingList, outlineOf}
@@ -20,6 +20,7 @@ use Rattle.laws.proofs.Tests.{test}
 use Rattle.laws.proofs.Calls.{by-ladder, outcome-accepted, outcome-refused}
 use Rattle.laws.proofs.Central.{position-steps}
 use Rattle.laws.proofs.Reflect.{sound-is}
+use Rattle.laws.proofs.Climb.{links-within}
 use Rattle.laws.proofs.Standing.{steps-most}
 use Rattle.laws.proofs.Lists.{taken-length, upcoming-length}
 use Rattle.laws.proofs.Trips.{saved-length, frames-few}
@@ -60,6 +61,15 @@ module _ (words : List ℕ) (a : Answer) (runs : List (List ℕ)) where
       let i = position-steps (rowsOf words) in
       let j = steps-most (rowsOf words) in
       (omega arith, omega arith, omega arith)
+
+  -- How many links a climb follows.
+  pub links-small : (d b h l : ℕ) → outcome (Call.Visible words d) ≡ record { answer = a; lent = runs } → a ≡ Answer.gives (b ∷ h ∷ l ∷ []) → l ≤ 512
+  unfolding refusals NoneGiven accepted climbOf
+  links-small d b h l e g =
+      let n = not-refused (Call.Visible words d) a runs _ e g in
+      let m = sound-is words .0 (not-false _ (n .1 .0)) .table .s1 .fits in
+      let z : climbOf (rowsOf words) d .links ≡ l = ap (value 2) (given-is (Call.Visible words d) a runs _ e g) in
+      omega (arith, links-within (rowsOf words) (length (rowsOf words)) d)
 
   -- How many steps are taken, and how many upcoming.
   pub lists-small : (takens upcomings : List ℕ) (t u : ℕ) → outcome (Call.Lists words takens upcomings) ≡ record { answer = a; lent = runs } → a ≡ Answer.gives (t ∷ u ∷ []) → (t ≤ 512) × (u ≤ 512)

@@ -182,26 +182,29 @@ pub extern "C" fn frame_history_position(
     }
 }
 
-// Whether a document is visible: 1 or 0; and who hides it.
+// Whether a document is visible: 1 or 0; who hides it; and how many parent links were followed.
 #[no_mangle]
 pub extern "C" fn frame_history_visible(
     words: &[u32],
     document: u32,
     answer: &mut u32,
     hiding: &mut u32,
+    links: &mut u32,
 ) -> u32
-    ensures { λ r. ⌜ face (outcome (Call.Visible (now (words .entry)) document)) (now (answer .entry) ∷ now (hiding .entry) ∷ [])
-        ≡ record { number = r; outs = now (answer .exit) ∷ now (hiding .exit) ∷ []; lent = [] } ⌝ }
+    ensures { λ r. ⌜ face (outcome (Call.Visible (now (words .entry)) document)) (now (answer .entry) ∷ now (hiding .entry) ∷ now (links .entry) ∷ [])
+        ≡ record { number = r; outs = now (answer .exit) ∷ now (hiding .exit) ∷ now (links .exit) ∷ []; lent = [] } ⌝ }
 {
     match asks::visible(words, DocNo(document)) {
-        Sight::Visible => {
+        Sight::Visible(n) => {
             *answer = 1;
             *hiding = NONE;
+            *links = n as u32;
             0
         }
-        Sight::Hidden(h) => {
+        Sight::Hidden(h, n) => {
             *answer = 0;
             *hiding = h.0;
+            *links = n as u32;
             0
         }
         Sight::Refused(r) => base::refusal_number(r),

@@ -1,19 +1,19 @@
 -- The climb from a row to its parent's: what stands beneath a row, what is visible, and what hides it. Assumes nothing.
 use Prim.Native.Nat.{ℕ, zero, suc, _≤_, _<_}
-use mathlib.Core.Path.{_≡_, refl, sym, _∙_}
+use mathlib.Core.Path.{_≡_, refl, sym, ap, _∙_}
 use mathlib.Core.List.{List}
 use mathlib.Core.Logic.{_⊎_, _↔_, inl, inr, ⊎-elim}
-use mathlib.Core.Bool.{Bool, false, _&&_, _||_, So, false≢true, and-eq-true-iff}
+use mathlib.Core.Bool.{Bool, false, _&&_, _||_, So, cond, false≢true, and-eq-true-iff}
 use native.Mathlib.Nat.{not-suc-le-zero}
 use native.Mathlib.Omega.{arith}
 use lib.Dec.{eqb}
 use lib.ListN.{length}
 use borrow.Author.Tests.{eqb-true, eqb-false, eq-eqb, ne-eqb}
 use Rattle.rules.specs.Rows.{Row, none, docAt, parentAt, isShown, isDoc, climb}
-use Rattle.rules.specs.Steps.{Hider, isNobody, hiderAsk, lost, hiderAt, hiderOf, visibleAt, visible}
+use Rattle.rules.specs.Steps.{Hider, isNobody, Climb, ended, further, climbAsk, lost, climbAt, climbOf, hiderAt, hiderOf, visibleAt, visible}
 use Rattle.rules.specs.Moves.{beneathAsk, gone}
 use Rattle.rules.specs.Sound.{S4}
-use Rattle.laws.proofs.Tests.{test, or-left, or-right, or-cases, below-cases}
+use Rattle.laws.proofs.Tests.{test, clash, or-left, or-right, or-cases, below-cases}
 use Rattle.laws.proofs.Tree.{TreeOf, Once, distinct}
 
 module _ {A : Type 0} (lost : A) (ask : (ℕ → A) → ℕ → A) (rows : List Row) where
@@ -86,20 +86,23 @@ visibleAsk rows up k = isShown rows k && (eqb (parentAt rows k) none || up (pare
 
 module _ (rows : List Row) where
   -- Nobody hides row k: it is shown, and nobody hides what is above it.
-  nobody-asks : (up : ℕ → Hider) (up' : ℕ → Bool) → ((d : ℕ) → isNobody (up d) ≡ up' d) → (k : ℕ) → isNobody (hiderAsk rows up k) ≡ visibleAsk rows up' k
+  nobody-asks : (up : ℕ → Climb) (up' : ℕ → Bool) → ((d : ℕ) → isNobody (up d .hider) ≡ up' d) → (k : ℕ) → isNobody (climbAsk rows up k .hider) ≡ visibleAsk rows up' k
   nobody-asks up up' h k =
       test (isShown rows k)
       (λ t. test (eqb (parentAt rows k) none) (λ e. rw (t, e) refl) (λ e. rw (t, e) (h (parentAt rows k))))
       (λ f. rw f refl)
 
+  nobody-along : (k d : ℕ) → isNobody (climb lost (climbAsk rows) rows k d .hider) ≡ climb false (visibleAsk rows) rows k d
+  nobody-along k d = climb-along (λ c. isNobody (c .hider)) {lost = lost} {ask = climbAsk rows} rows refl nobody-asks k d
+
   -- What is visible goes by yes or no alone, from row to row.
   pub visible-is : (d : ℕ) → visible rows d ≡ climb false (visibleAsk rows) rows (length rows) d
-  unfolding visible hiderOf
-  visible-is d = climb-along isNobody rows refl nobody-asks (length rows) d
+  unfolding visible hiderOf climbOf
+  visible-is d = nobody-along (length rows) d
 
   pub visible-at-is : (k : ℕ) → visibleAt rows k ≡ visibleAsk rows (climb false (visibleAsk rows) rows k) k
-  unfolding visibleAt hiderAt
-  visible-at-is k = nobody-asks (climb lost (hiderAsk rows) rows k) (climb false (visibleAsk rows) rows k) (climb-along isNobody rows refl nobody-asks k) k
+  unfolding visibleAt hiderAt climbAt
+  visible-at-is k = nobody-asks (climb lost (climbAsk rows) rows k) (climb false (visibleAsk rows) rows k) (nobody-along k) k
 
 -- The two ways up: there is no parent, or an earlier row has it and passes.
 abbrev pub Up : List Row → (ℕ → Bool) → ℕ → Type 0
@@ -131,6 +134,44 @@ module _ (rows : List Row) where
   sees-out d s =
       let r = climb-out (visibleAsk rows) rows (length rows) d (sym (visible-is rows d) ∙ s) in (r .0, r .1, r .2, visible-at-is rows (r .0) ∙ r .3)
 
+-- WHAT THE CLIMB FINDS
+
+module _ (rows : List Row) where
+  -- From a row that isn't shown the climb ends at once, with itself; from one that is and has no parent too, with nobody.
+  pub climbs-itself : (i : ℕ) → isShown rows i ≡ false → climbAt rows i ≡ ended (Hider.document (docAt rows i))
+  unfolding climbAt
+  climbs-itself i f = rw f refl
+
+  pub climbs-nobody : (i : ℕ) → So (isShown rows i) → parentAt rows i ≡ none → climbAt rows i ≡ ended Hider.nobody
+  unfolding climbAt
+  climbs-nobody i s e = rw (s, eq-eqb _ _ e) refl
+
+  -- Where a document has one row, the climb from it is that from the row, and a shown row's goes one link further than that from its parent's row.
+  module _ (once : Once (length rows) (docAt rows)) where
+    pub climbs-row : (d : ℕ) {i : ℕ} → i < length rows → docAt rows i ≡ d → climbOf rows d ≡ climbAt rows i
+    unfolding climbOf climbAt
+    climbs-row d {i} l e = climb-once lost (climbAsk rows) rows once (length rows) d {j = i} (omega arith) l e
+
+    pub climbs-up : (i : ℕ) → i < length rows → So (isShown rows i) → (parentAt rows i ≡ none → ⊥) → {j : ℕ} → j < i → docAt rows j ≡ parentAt rows i →
+        climbAt rows i ≡ further (climbAt rows j)
+    unfolding climbAt
+    climbs-up i l s p {j} m e = rw (s, ne-eqb _ _ p) (ap further (climb-once lost (climbAsk rows) rows once i (parentAt rows i) {j = j} (omega arith) m e))
+
+    -- With parents in earlier rows the climb is never lost: it ends at once, with the row itself or with nobody, or goes on from the parent's row.
+    pub climb-cases {ℓ} : {C : Type ℓ} → S4 rows → (i : ℕ) → i < length rows →
+        (isShown rows i ≡ false → climbAt rows i ≡ ended (Hider.document (docAt rows i)) → C) →
+        (So (isShown rows i) → parentAt rows i ≡ none → climbAt rows i ≡ ended Hider.nobody → C) →
+        (So (isShown rows i) → (parentAt rows i ≡ none → ⊥) → (j : ℕ) → j < i → docAt rows j ≡ parentAt rows i → climbAt rows i ≡ further (climbAt rows j) → C) → C
+    climb-cases s4 i l itself nobody above =
+        test (isShown rows i)
+        (λ s.
+        test (eqb (parentAt rows i) none)
+        (λ e. nobody s (eqb-true _ _ e) (climbs-nobody i s (eqb-true _ _ e)))
+        (λ f.
+        let p = eqb-false _ _ f in
+        ⊎-elim (λ e. absurd (p e)) (λ r. above s p (r .0) (r .1) (r .2) (climbs-up i l s p {j = r .0} (r .1) (r .2))) (s4 .placed i l)))
+        (λ f. itself f (climbs-itself i f))
+
 -- WHO HIDES IT
 
 by-hider {ℓ} : {C : Type ℓ} (x : Hider) → (x ≡ Hider.nobody → C) → ((h : ℕ) → x ≡ Hider.document h → C) → C
@@ -150,22 +191,22 @@ module _ (rows : List Row) where
   -- A row that isn't shown hides itself; one that is and has no parent nobody hides.
   pub hides-itself : (i : ℕ) → isShown rows i ≡ false → hiderAt rows i ≡ Hider.document (docAt rows i)
   unfolding hiderAt
-  hides-itself i f = rw f refl
+  hides-itself i f = ap (λ c. c .hider) (climbs-itself rows i f)
 
   pub hides-nobody : (i : ℕ) → So (isShown rows i) → parentAt rows i ≡ none → hiderAt rows i ≡ Hider.nobody
   unfolding hiderAt
-  hides-nobody i s e = rw (s, eq-eqb _ _ e) refl
+  hides-nobody i s e = ap (λ c. c .hider) (climbs-nobody rows i s e)
 
   -- Where a document has one row, what hides the row hides the document, and what hides the parent's row hides a row that is shown.
   module _ (once : Once (length rows) (docAt rows)) where
     pub hider-row : (d : ℕ) {i : ℕ} → i < length rows → docAt rows i ≡ d → hiderOf rows d ≡ hiderAt rows i
     unfolding hiderOf hiderAt
-    hider-row d {i} l e = climb-once lost (hiderAsk rows) rows once (length rows) d {j = i} (omega arith) l e
+    hider-row d {i} l e = ap (λ c. c .hider) (climbs-row rows once d {i = i} l e)
 
     pub hider-up : (i : ℕ) → i < length rows → So (isShown rows i) → (parentAt rows i ≡ none → ⊥) → {j : ℕ} → j < i → docAt rows j ≡ parentAt rows i →
         hiderAt rows i ≡ hiderAt rows j
     unfolding hiderAt
-    hider-up i l s p {j} m e = rw (s, ne-eqb _ _ p) (climb-once lost (hiderAsk rows) rows once i (parentAt rows i) {j = j} (omega arith) m e)
+    hider-up i l s p {j} m e = ap (λ c. c .hider) (climbs-up rows once i l s p {j = j} m e)
 
     -- With parents in earlier rows the climb is never lost: a row is hidden by itself, by nobody, or by what hides its parent's row.
     pub hider-cases {ℓ} : {C : Type ℓ} → S4 rows → (i : ℕ) → i < length rows →
@@ -173,11 +214,50 @@ module _ (rows : List Row) where
         (So (isShown rows i) → hiderAt rows i ≡ Hider.nobody → C) →
         (So (isShown rows i) → (parentAt rows i ≡ none → ⊥) → (j : ℕ) → j < i → docAt rows j ≡ parentAt rows i → hiderAt rows i ≡ hiderAt rows j → C) → C
     hider-cases s4 i l itself nobody above =
-        test (isShown rows i)
-        (λ s.
-        test (eqb (parentAt rows i) none)
-        (λ e. nobody s (hides-nobody i s (eqb-true _ _ e)))
-        (λ f.
-        let p = eqb-false _ _ f in
-        ⊎-elim (λ e. absurd (p e)) (λ r. above s p (r .0) (r .1) (r .2) (hider-up i l s p {j = r .0} (r .1) (r .2))) (s4 .placed i l)))
-        (λ f. itself f (hides-itself i f))
+        climb-cases rows once s4 i l
+        (λ f e. itself f (hides-itself i f))
+        (λ s r e. nobody s (hides-nobody i s r))
+        (λ s p j m d e. above s p j m d (hider-up i l s p {j = j} m d))
+
+-- HOW FAR IT GOES
+
+-- Of any rows: one link more than from whatever is above.
+links-asked : (rows : List Row) (up : ℕ → Climb) (k most : ℕ) → ((d : ℕ) → up d .links ≤ most) → climbAsk rows up k .links ≤ suc most
+links-asked rows up k most h =
+    test (isShown rows k)
+    (λ s. test (eqb (parentAt rows k) none) (λ e. rw (s, e) (omega arith)) (λ e. rw (s, e) (omega (arith, h (parentAt rows k)))))
+    (λ s. rw s (omega arith))
+
+-- So at most as many as there are rows before; and from a row one more, to a document of no row.
+pub links-within : (rows : List Row) (k d : ℕ) → climb lost (climbAsk rows) rows k d .links ≤ k
+unfolding climb
+links-within rows zero d = omega arith
+links-within rows (suc k) d =
+    test (isDoc rows d k) (λ t. rw t (links-asked rows (climb lost (climbAsk rows) rows k) k k (links-within rows k))) (λ f. rw f (omega (arith, links-within rows k d)))
+
+pub links-at : (rows : List Row) (k : ℕ) → climbAt rows k .links ≤ suc k
+unfolding climbAt
+links-at rows k = links-asked rows (climb lost (climbAsk rows) rows k) k k (links-within rows k)
+
+-- Where a document has one row and a parent an earlier one, never more than there are rows before its own.
+module _ (rows : List Row) (once : Once (length rows) (docAt rows)) (s4 : S4 rows) where
+  row-links : (n i : ℕ) → i < n → i < length rows → climbAt rows i .links ≤ i
+  row-links zero i c l = absurd (not-suc-le-zero c)
+  row-links (suc n) i c l =
+      climb-cases rows once s4 i l
+      (λ f e. rw e (omega arith))
+      (λ s p e. rw e (omega arith))
+      (λ s p j m q e. rw e (omega (arith, row-links n j (omega arith) (omega arith))))
+
+  pub links-before : (d : ℕ) {i : ℕ} → i < length rows → docAt rows i ≡ d → climbOf rows d .links ≤ i
+  links-before d {i} l e = rw (climbs-row rows once d {i = i} l e) (row-links (suc i) i (omega arith) l)
+
+  -- The links from a shown row: none where it has no parent, one more than from its parent where it has.
+  pub links-up : (i : ℕ) → i < length rows → So (isShown rows i) →
+      climbOf rows (docAt rows i) .links ≡ cond (eqb (parentAt rows i) none) 0 (suc (climbOf rows (parentAt rows i) .links))
+  links-up i l s =
+      ap (λ c. c .links) (climbs-row rows once (docAt rows i) {i = i} l refl)
+      ∙ climb-cases rows once s4 i l
+      (λ f e. absurd (clash s f))
+      (λ s p e. rw (e, eq-eqb _ _ p) refl)
+      (λ s p j m q e. rw (e, ne-eqb _ _ p) (ap (λ c. suc (c .links)) (sym (climbs-row rows once (parentAt rows i) {i = j} (omega arith) q))))

@@ -2,7 +2,7 @@
 use Prim.Native.Nat.{ℕ, zero, suc, _+_, _≤_, _<_}
 use mathlib.Core.Bool.{Bool, true, false, _&&_, _||_, So, cond, and-eq-true-iff}
 use mathlib.Core.List.{List, [], _∷_, _++_, flatMap}
-use mathlib.Core.Path.{_≡_, refl, sym, ap, _∙_}
+use mathlib.Core.Path.{_≡_, refl, sym, ap, subst, _∙_}
 use native.Mathlib.Nat.{not-suc-le-zero}
 use native.Mathlib.Omega.{arith}
 use lib.Dec.{eqb}
@@ -72,31 +72,52 @@ after-same f g (suc k) m e = omega (arith, e m, after-same f g k (suc m) e)
 
 -- PAIRS
 
--- A run of pairs.
-pub data Paired : List ℕ → Type 0 where
-  nil : Paired []
-  pair : {x y : ℕ} {l : List ℕ} → Paired l → Paired (x ∷ y ∷ l)
+-- A run of pairs that are so.
+pub data Pairs (P : ℕ → ℕ → Type 0) : List ℕ → Type 0 where
+  nil : Pairs P []
+  pair : {x y : ℕ} {l : List ℕ} → P x y → Pairs P l → Pairs P (x ∷ y ∷ l)
 
-paired-append : {xs ys : List ℕ} → Paired xs → Paired ys → Paired (xs ++ ys)
-paired-append nil q = q
-paired-append (pair p) q = pair (paired-append p q)
+module _ {P : ℕ → ℕ → Type 0} where
+  pairs-append : {xs ys : List ℕ} → Pairs P xs → Pairs P ys → Pairs P (xs ++ ys)
+  pairs-append nil q = q
+  pairs-append (pair h p) q = pair h (pairs-append p q)
 
-paired-flat : (g : ℕ → List ℕ) → ((f : ℕ) → Paired (g f)) → (fs : List ℕ) → Paired (flatMap g fs)
-unfolding flatMap
-paired-flat g h [] = nil
-paired-flat g h (f ∷ fs) = paired-append (h f) (paired-flat g h fs)
+  pub pairs-flat : (g : ℕ → List ℕ) → ((f : ℕ) → Pairs P (g f)) → (fs : List ℕ) → Pairs P (flatMap g fs)
+  unfolding flatMap
+  pairs-flat g h [] = nil
+  pairs-flat g h (f ∷ fs) = pairs-append (h f) (pairs-flat g h fs)
+
+-- From Q of a parent and the depth at which its frames are written there follows P of a shown row's document and its depth, and Q of what is beneath it.
+abbrev Passes : (ℕ → ℕ → Type 0) → (ℕ → ℕ → Type 0) → List Row → Type 0
+Passes P Q rows =
+    (j : ℕ) → j < length rows → So (isShown rows j) → (depth : ℕ) → Q depth (parentAt rows j) → P depth (docAt rows j) × Q (suc depth) (docAt rows j)
+
+-- Then each pair of a frame is so.
+pub pairs-frame : (P Q : ℕ → ℕ → Type 0) (fs : List ℕ) (rows : List Row) → Passes P Q rows → (depth d f : ℕ) → Q depth d → Pairs P (outlineFrame fs rows depth d f)
+unfolding outlineFrame
+pairs-frame P Q fs [] h depth d f q = nil
+pairs-frame P Q fs (r ∷ rows) h depth d f q =
+    let on : Passes P Q rows = λ j l. h (suc j) (omega arith) in
+    test (eqb (r .shown) 1 && eqb (r .parent) d && eqb (r .frame) f)
+    (λ t.
+    let u = simp and-eq-true-iff at t in
+    let k = h 0 (omega arith) (u .0 .0) depth (subst (Q depth) (sym (eqb-true _ _ (u .0 .1))) q) in
+    rw t (pair (k .0) (pairs-flat _ (λ g. pairs-frame P Q fs rows on (suc depth) (r .doc) g (k .1)) fs)))
+    (λ t. rw t (pairs-frame P Q fs rows on depth d f q))
+
+-- Pairs of any numbers.
+abbrev Any : ℕ → ℕ → Type 0
+Any x y = Unit {0}
+
+abbrev pub Paired : List ℕ → Type 0
+Paired = Pairs Any
 
 paired-frame : (fs : List ℕ) (rows : List Row) (depth d f : ℕ) → Paired (outlineFrame fs rows depth d f)
-unfolding outlineFrame
-paired-frame fs [] depth d f = nil
-paired-frame fs (r ∷ rows) depth d f =
-    test (eqb (r .shown) 1 && eqb (r .parent) d && eqb (r .frame) f)
-    (λ t. rw t (pair (paired-flat _ (paired-frame fs rows (suc depth) (r .doc)) fs)))
-    (λ t. rw t (paired-frame fs rows depth d f))
+paired-frame fs rows depth d f = pairs-frame Any Any fs rows (λ j l s n q. (tt, tt)) depth d f tt
 
 pub paired-below : (t : Table) (s depth d g : ℕ) → Paired (framesBelow t s depth d g)
 unfolding framesBelow
-paired-below t s depth d g = paired-flat _ (paired-frame (frames t) (drop s (t .rows)) depth d) (rising (isFrame (t .rows)) g)
+paired-below t s depth d g = pairs-flat _ (paired-frame (frames t) (drop s (t .rows)) depth d) (rising (isFrame (t .rows)) g)
 
 -- What w gives for the document of each pair, together.
 unfoldable pub weigh : (ℕ → ℕ) → List ℕ → ℕ
@@ -108,7 +129,7 @@ module _ (w : ℕ → ℕ) where
   weigh-append : {xs : List ℕ} (ys : List ℕ) → Paired xs → weigh w (xs ++ ys) ≡ weigh w xs + weigh w ys
   unfolding weigh
   weigh-append ys nil = omega arith
-  weigh-append ys (pair p) = omega (arith, weigh-append ys p)
+  weigh-append ys (pair h p) = omega (arith, weigh-append ys p)
 
   weigh-none : {l : List ℕ} → l ≡ [] → weigh w l ≡ 0
   unfolding weigh

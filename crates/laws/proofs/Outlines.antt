@@ -1,22 +1,23 @@
--- The outline of a sound record has each visible document once, and no other. Assumes nothing.
+-- The outline of a sound record has each visible document once, at its depth, and no other. Assumes nothing.
 use Prim.Native.Nat.{ℕ, zero, suc, _+_, _*_, _/_, _≤_, _<_}
 use mathlib.Core.Bool.{Bool, _&&_, So, cond, and-eq-true-iff}
 use mathlib.Core.List.{List, _∷_}
 use mathlib.Core.Logic.{_↔_}
-use mathlib.Core.Path.{_≡_, refl, sym, ap, subst, _∙_}
+use mathlib.Core.Path.{_≡_, refl, sym, ap, subst, subst₂, _∙_}
 use native.Mathlib.Omega.{arith}
 use lib.Dec.{eqb}
 use lib.ListN.{length, getD}
-use borrow.Author.Tests.{eqb-true, eq-eqb}
+use borrow.Author.Tests.{eqb-true, eq-eqb, ne-eqb}
 use Rattle.rules.specs.Below.{sum, count}
 use Rattle.rules.specs.Rows.{Table, none, docAt, flag}
-use Rattle.rules.specs.Steps.{visibleAt, visible}
+use Rattle.rules.specs.Steps.{climbOf, visibleAt, visible}
+use Rattle.rules.specs.Moves.{frames}
 use Rattle.rules.specs.Asks.{outlineOf}
 use Rattle.rules.specs.Sound.{SoundTable}
 use Rattle.laws.proofs.Tests.{test, off, clash, count-in, count-zero, count-flat, count-same, one-in, one-out}
-use Rattle.laws.proofs.Tree.{tree-of, distinct}
-use Rattle.laws.proofs.Climb.{sees-in, sees-out}
-use Rattle.laws.proofs.OutlineWeights.{Paired, nil, pair, paired-below, weigh, outline-weighs}
+use Rattle.laws.proofs.Tree.{once-of, tree-of, distinct, proper}
+use Rattle.laws.proofs.Climb.{sees-in, sees-out, links-up}
+use Rattle.laws.proofs.OutlineWeights.{Pairs, nil, pair, pairs-flat, pairs-frame, Paired, paired-below, weigh, outline-weighs}
 use Rattle.laws.proofs.OutlineTexts.{outline-code}
 
 paired-outline : (t : Table) → Paired (outlineOf t)
@@ -27,7 +28,7 @@ paired-outline t = subst Paired (outline-code t none refl) (paired-below t 0 0 n
 length-weighs : {l : List ℕ} → Paired l → weigh (λ d. 2) l ≡ length l
 unfolding weigh
 length-weighs nil = refl
-length-weighs (pair p) = omega (arith, length-weighs p)
+length-weighs (pair h p) = omega (arith, length-weighs p)
 
 sum-bound : (f : ℕ → ℕ) (n : ℕ) → ((k : ℕ) → f k ≤ 2) → sum f n ≤ 2 * n
 unfolding sum
@@ -59,16 +60,23 @@ unfolding count
 count-suc p zero = test (p 0) (λ y. rw y refl) (λ f. rw f refl)
 count-suc p (suc n) = let ih = count-suc p n in test (p (suc n)) (λ y. rw y (omega arith)) (λ f. rw f ih)
 
+next-pair : (i : ℕ) → suc (suc (2 * i + 1)) ≡ 2 * suc i + 1
+next-pair i = omega arith
+
 pairs-weigh : (d : ℕ) {l : List ℕ} → Paired l → weigh (λ x. flag (eqb x d)) l ≡ pairsOf l d
 unfolding weigh
 pairs-weigh d nil = sym (count-zero _)
-pairs-weigh d (pair {x} {y} {l} p) =
+pairs-weigh d (pair {x} {y} {l} h p) =
     let e : length (x ∷ y ∷ l) / 2 ≡ suc (length l / 2) = omega arith in
-    rw e (ap (λ k. flag (eqb y d) + k) (pairs-weigh d p ∙ count-same _ _ (length l / 2) (λ i m. ap (λ k. eqb (getD (x ∷ y ∷ l) k 0) d) (twice i)))
+    rw e (ap (λ k. flag (eqb y d) + k) (pairs-weigh d p ∙ count-same _ _ (length l / 2) (λ i m. ap (λ k. eqb (getD (x ∷ y ∷ l) k 0) d) (next-pair i)))
     ∙ sym (count-suc (pairIs (x ∷ y ∷ l) d) (length l / 2)))
-  where
-    twice : (i : ℕ) → suc (suc (2 * i + 1)) ≡ 2 * suc i + 1
-    twice i = omega arith
+
+pairs-at : {P : ℕ → ℕ → Type 0} {l : List ℕ} → Pairs P l → (k : ℕ) → k < length l / 2 → P (getD l (2 * k) 0) (getD l (2 * k + 1) 0)
+pairs-at nil k m = absurd (omega arith)
+pairs-at (pair h p) zero m = h
+pairs-at {P = P} (pair {x} {y} {l} h p) (suc k) m =
+    let e : suc (suc (2 * k)) ≡ 2 * suc k = omega arith in
+    subst₂ (λ i j. P (getD (x ∷ y ∷ l) i 0) (getD (x ∷ y ∷ l) j 0)) e (next-pair k) (pairs-at p k (omega arith))
 
 sum-count : (v e : ℕ → Bool) (n : ℕ) → sum (λ j. cond (v j) (flag (e j)) 0) n ≡ count (λ j. v j && e j) n
 unfolding sum count
@@ -122,3 +130,14 @@ module _ (t : Table) (room : ℕ) (sound : SoundTable room t) (word : t .nextDoc
       let y = outline-visible d .0 (j, b, refl) in
       let z : pairsOf (outlineOf t) d ≡ 1 = outline-once d ∙ rw y refl in
       one-out (pairIs (outlineOf t) d) (length (outlineOf t) / 2) z .1 i j a b (eq-eqb _ _ e) (eq-eqb d d refl)
+
+  -- The depth of each pair is the number of links of the climb from its document. The frames of a document are one deeper, those of none at 0.
+  pub outline-depth : (k : ℕ) → k < length (outlineOf t) / 2 → getD (outlineOf t) (2 * k) 0 ≡ climbOf (t .rows) (getD (outlineOf t) (2 * k + 1) 0) .links
+  unfolding outlineOf
+  outline-depth k l =
+      let rows = t .rows in
+      let links : ℕ → ℕ = λ d. climbOf rows d .links in
+      let beneath : ℕ → ℕ = λ d. cond (eqb d none) 0 (suc (links d)) in
+      pairs-at (pairs-flat _ (λ f. pairs-frame (λ n d. n ≡ links d) (λ n d. n ≡ beneath d) (frames t) rows (λ j m s n q.
+      let e : n ≡ links (docAt rows j) = q ∙ sym (links-up rows (once-of sound) (sound .s4) j m s) in
+      (e, rw (ne-eqb (docAt rows j) none (proper (tree-of sound word) j m)) (ap suc e))) 0 none f refl) (frames t)) k l

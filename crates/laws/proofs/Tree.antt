@@ -50,10 +50,13 @@ module _ {n : ℕ} {doc frame parent : ℕ → ℕ} {a b : ℕ} (t : Tree n doc 
   parent-earlier j i k l e =
       ⊎-elim (λ z. absurd (proper j k (e ∙ z))) (λ r. let q = distinct (r .0) j (omega arith) k (r .2 ∙ sym e) in omega arith) (t .placed i l)
 
-pub place-is : (rows : List Row) {a b : ℕ} → TreeOf rows a b → (i d : ℕ) → i < length rows → docAt rows i ≡ d → place rows d ≡ i
+pub place-once : (rows : List Row) → Once (length rows) (docAt rows) → (i d : ℕ) → i < length rows → docAt rows i ≡ d → place rows d ≡ i
 unfolding place
-place-is rows t i d l e =
-    earliest-is _ (length rows) l (eq-eqb _ _ e) (λ m k s. let q = distinct t m i (omega arith) l (eqb-true _ _ s ∙ sym e) in omega arith)
+place-once rows alone i d l e =
+    earliest-is _ (length rows) l (eq-eqb _ _ e) (λ m k s. let q = alone m i (omega arith) l (eqb-true _ _ s ∙ sym e) in omega arith)
+
+pub place-is : (rows : List Row) {a b : ℕ} → TreeOf rows a b → (i d : ℕ) → i < length rows → docAt rows i ≡ d → place rows d ≡ i
+place-is rows t = place-once rows (distinct t)
 
 -- "Rows of one frame have one parent": it is the parent of each.
 pub parent-of : (rows : List Row) → ((i j : ℕ) → i < length rows → j < length rows → frameAt rows i ≡ frameAt rows j → parentAt rows i ≡ parentAt rows j) →

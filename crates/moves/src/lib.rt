@@ -62,8 +62,8 @@ fn may_open(words: &[u32], parent: DocNo) -> Check
 {
     match asks::seen(words, parent) {
         Sight::Refused(r) => Check::No(r),
-        Sight::Hidden(h) => Check::No(Refusal::Hidden(h)),
-        Sight::Visible => judge_room(words),
+        Sight::Hidden(h, _) => Check::No(Refusal::Hidden(h)),
+        Sight::Visible(_) => judge_room(words),
     }
 }
 

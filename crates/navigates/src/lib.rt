@@ -58,8 +58,8 @@ fn judge(words: &[u32], s: Stand, from: DocNo) -> Check
 {
     match asks::seen(words, from) {
         Sight::Refused(r) => Check::No(r),
-        Sight::Hidden(h) => Check::No(Refusal::Hidden(h)),
-        Sight::Visible => judge_room(words, s),
+        Sight::Hidden(h, _) => Check::No(Refusal::Hidden(h)),
+        Sight::Visible(_) => judge_room(words, s),
     }
 }
 

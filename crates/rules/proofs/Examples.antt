@@ -12,7 +12,7 @@ use lib.ListN.{length, getD, drop, replicate}
 use lib.Seq.{sets-eq}
 use Rattle.rules.specs.Below.{someBelow, allBelow, count, earliest, latest, sum, tab, gather}
 use Rattle.rules.specs.Rows.{none, docAt, isShown, inRecord, place, isFrame, flag, withFlags, climb}
-use Rattle.rules.specs.Steps.{step, reach, position, steps, hiderOf, visible}
+use Rattle.rules.specs.Steps.{step, reach, position, steps, climbOf, hiderOf, visible}
 use Rattle.rules.specs.Moves.{opened, gone, without, hide, navigated, show, forward, backTarget, rowBefore, back, walked, shownDoc, changeRow, changes}
 use Rattle.rules.specs.Words.{put, tableOf, rowsOf, wordsOf, written}
 use Rattle.rules.specs.Sound.{soundTable?, sound?}
@@ -324,7 +324,7 @@ abbrev pub table : List Case
 table = p1 ∷ p2 ∷ p3 ∷ p4 ∷ p5 ∷ p6 ∷ p7 ∷ p8 ∷ p9 ∷ p10 ∷ p11 ∷ p11b ∷ p12 ∷ p12b ∷ hiddenFuture ∷ []
 
 pub examples-hold : map seen table ≡ map (λ c. c .expected) table
-unfolding someBelow allBelow count earliest latest tab gather inRecord place isFrame withFlags climb step reach position steps hiderOf visible
+unfolding someBelow allBelow count earliest latest tab gather inRecord place isFrame withFlags climb step reach position steps climbOf hiderOf visible
     opened gone without hide navigated show forward backTarget rowBefore back walked shownDoc changeRow changes
     put tableOf wordsOf written soundTable? sound? refusals accepted ladder outcome run flatMap
 examples-hold = refl
@@ -368,7 +368,7 @@ drops =
     ∷ []
 
 pub drops-hold : map seen drops ≡ map (λ c. c .expected) drops
-unfolding someBelow allBelow count earliest latest tab gather inRecord place isFrame withFlags climb step reach position steps hiderOf visible
+unfolding someBelow allBelow count earliest latest tab gather inRecord place isFrame withFlags climb step reach position steps climbOf hiderOf visible
     opened gone without hide navigated show forward backTarget rowBefore back walked shownDoc changeRow changes parentOf
     put tableOf wordsOf written soundTable? sound? refusals accepted ladder outcome run flatMap
 drops-hold = refl
@@ -417,12 +417,12 @@ swapped = holding 2 (row 0 1 none 1 ∷ row 1 0 0 1 ∷ []) none none
 abbrev nested : List ℕ
 nested = holding 6 (row 0 0 none 0 ∷ row 1 1 0 0 ∷ row 2 2 1 1 ∷ row 3 1 0 1 ∷ row 4 0 none 1 ∷ row 5 3 2 1 ∷ []) 6 4
 
--- Visible says yes, and that nobody hides it; no, and who does.
-abbrev seesIt : Answer
-seesIt = Answer.gives (1 ∷ none ∷ [])
+-- Visible says yes, and that nobody hides it; no, and who does; and how many links were followed.
+abbrev seesIt : ℕ → Answer
+seesIt links = Answer.gives (1 ∷ none ∷ links ∷ [])
 
-abbrev hid : ℕ → Answer
-hid d = Answer.gives (0 ∷ d ∷ [])
+abbrev hid : ℕ → ℕ → Answer
+hid d links = Answer.gives (0 ∷ d ∷ links ∷ [])
 
 -- A record that Position refuses as unsound.
 abbrev unsound : List ℕ → Small
@@ -510,13 +510,17 @@ smalls =
     ∷ small (Call.Open X 9) (no 4) (X ∷ [])
     ∷ small (Call.Open X 2) (no5 2) (X ∷ [])
     -- "either that the document is visible or the number of the nearest document, itself first and then upwards, that isn't shown"
-    ∷ small (Call.Visible X 4) seesIt []
-    ∷ small (Call.Visible X 2) (hid 2) []
-    ∷ small (Call.Visible nested 0) (hid 0) []
-    ∷ small (Call.Visible nested 1) (hid 1) []
-    ∷ small (Call.Visible nested 2) (hid 1) []
-    ∷ small (Call.Visible nested 3) (hid 0) []
-    ∷ small (Call.Visible nested 4) seesIt []
+    ∷ small (Call.Visible X 2) (hid 2 0) []
+    ∷ small (Call.Visible nested 0) (hid 0 0) []
+    ∷ small (Call.Visible nested 1) (hid 1 0) []
+    ∷ small (Call.Visible nested 2) (hid 1 1) []
+    ∷ small (Call.Visible nested 3) (hid 0 1) []
+    -- "the number of parent links followed: from the document upwards, none if it isn't shown itself, and no link above the first hidden one"
+    ∷ small (Call.Visible nested 5) (hid 1 2) []
+    ∷ small (Call.Visible nested 4) (seesIt 0) []
+    ∷ small (Call.Visible X 0) (seesIt 0) []
+    ∷ small (Call.Visible X 1) (seesIt 1) []
+    ∷ small (Call.Visible X 4) (seesIt 2) []
     -- "Refusal 5 of opening, navigating and removal carries that number too (for removal, that of the parent's climb)": frame 3 lies in document 2.
     ∷ small (Call.Open nested 2) (no5 1) (nested ∷ [])
     ∷ small (Call.Navigate nested 3) (no5 0) (nested ∷ [])
@@ -537,7 +541,7 @@ smalls =
     ∷ []
 
 pub smalls-hold : map (λ s. outcome (s .call)) smalls ≡ map (λ s. s .expected) smalls
-unfolding someBelow allBelow count earliest latest sum tab gather inRecord place isFrame withFlags climb step reach position steps hiderOf visible
+unfolding someBelow allBelow count earliest latest sum tab gather inRecord place isFrame withFlags climb step reach position steps climbOf hiderOf visible
     gone without hide navigated show forward backTarget rowBefore back walked shownDoc changeRow changes
     put tableOf wordsOf written soundTable? sound? takenList upcomingList stretched outlineFrame outlineOf
     number docsOf shownPlace parentOf contents body saved toldRow toldRows loaded fromSave? refusals accepted ladder outcome flatMap

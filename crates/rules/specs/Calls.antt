@@ -8,7 +8,7 @@ use lib.Dec.{eqb, leb, ltb}
 use lib.IntN.{ℤ, pos, negsuc, _+ℤ_, natAbs}
 use lib.ListN.{length}
 use Rattle.rules.specs.Rows.{Row, none, inRecord, isFrame, flag}
-use Rattle.rules.specs.Steps.{position, steps, scriptLength, visible, hiderOf, hiderNumber}
+use Rattle.rules.specs.Steps.{position, steps, scriptLength, visible, climbOf, hiderOf, hiderNumber}
 use Rattle.rules.specs.Moves.{freshTable, opened, cleared, navigated, traversed, dropped, changes}
 use Rattle.rules.specs.Words.{put, capacity, tableOf, rowsOf, written}
 use Rattle.rules.specs.Sound.{sound?}
@@ -159,7 +159,7 @@ accepted (Call.Traverse words δ room) =
 accepted (Call.Drop words frame) =
     (length (rowsOf words) - length (dropped (tableOf words) frame .rows)) ∷ [] leaving written words (dropped (tableOf words) frame) ∷ []
 accepted (Call.Position words) = position (rowsOf words) ∷ steps (rowsOf words) ∷ scriptLength (rowsOf words) ∷ [] leaving []
-accepted (Call.Visible words d) = flag (visible (rowsOf words) d) ∷ hider words d ∷ [] leaving []
+accepted (Call.Visible words d) = flag (visible (rowsOf words) d) ∷ hider words d ∷ climbOf (rowsOf words) d .links ∷ [] leaving []
 accepted (Call.Lists words takens upcomings) =
     length (takenList (rowsOf words)) ∷ length (upcomingList (rowsOf words)) ∷ []
     leaving put takens 0 (takenList (rowsOf words)) ∷ put upcomings 0 (upcomingList (rowsOf words)) ∷ []

@@ -1,5 +1,5 @@
 -- The words of document 01, "Words".
-use Prim.Native.Nat.{ℕ, _+_}
+use Prim.Native.Nat.{ℕ, suc, _+_}
 use mathlib.Core.Bool.{Bool, true, false, not, _&&_, cond}
 use mathlib.Core.List.{List}
 use lib.Dec.{eqb, leb}
@@ -57,22 +57,42 @@ abbrev pub hiderNumber : Hider → ℕ
 hiderNumber Hider.nobody = none
 hiderNumber (Hider.document d) = d
 
--- "Its question to a document is the question to its parent, once the document itself is shown": what hides row k, when `up d` hides document d.
-abbrev pub hiderAsk : List Row → (ℕ → Hider) → ℕ → Hider
-hiderAsk rows up k =
-    let above = cond (eqb (parentAt rows k) none) Hider.nobody (up (parentAt rows k)) in
-    cond (isShown rows k) above (Hider.document (docAt rows k))
+-- What a climb finds: who hides the document, and "the number of parent links followed" (document 02, L6).
+pub record Climb : Type 0 where
+  pub hider : Hider
+  pub links : ℕ
+
+-- The climb ends here, or has followed one link more.
+abbrev pub ended : Hider → Climb
+ended h = record { hider = h; links = 0 }
+
+abbrev pub further : Climb → Climb
+further c = record { hider = c .hider; links = suc (c .links) }
+
+-- "Its question to a document is the question to its parent, once the document itself is shown": what the climb from row k finds, when `up d` is what that
+-- from document d does. "from the document upwards, none if it isn't shown itself, and no link above the first hidden one"
+abbrev pub climbAsk : List Row → (ℕ → Climb) → ℕ → Climb
+climbAsk rows up k =
+    let above = cond (eqb (parentAt rows k) none) (ended Hider.nobody) (further (up (parentAt rows k))) in
+    cond (isShown rows k) above (ended (Hider.document (docAt rows k)))
 
 -- A document of no row is hidden, by no document that there is.
-abbrev pub lost : Hider
-lost = Hider.document none
+abbrev pub lost : Climb
+lost = ended (Hider.document none)
 
--- What hides row k, and document d.
+-- The climb from row k, and from document d.
+unfoldable pub climbAt : List Row → ℕ → Climb
+climbAt rows k = climbAsk rows (climb lost (climbAsk rows) rows k) k
+
+unfoldable pub climbOf : List Row → ℕ → Climb
+climbOf rows d = climb lost (climbAsk rows) rows (length rows) d
+
+-- Who hides row k, and document d.
 unfoldable pub hiderAt : List Row → ℕ → Hider
-hiderAt rows k = hiderAsk rows (climb lost (hiderAsk rows) rows k) k
+hiderAt rows k = climbAt rows k .hider
 
 unfoldable pub hiderOf : List Row → ℕ → Hider
-hiderOf rows d = climb lost (hiderAsk rows) rows (length rows) d
+hiderOf rows d = climbOf rows d .hider
 
 -- "A document is visible when it and every document above it are shown": nobody hides it.
 unfoldable pub visibleAt : List Row → ℕ → Bool

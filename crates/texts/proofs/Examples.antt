@@ -5,7 +5,7 @@ use mathlib.Core.Path.{_≡_, refl}
 use lib.ListN.{replicate}
 use Rattle.rules.specs.Below.{someBelow, allBelow, count, earliest, latest, tab, gather}
 use Rattle.rules.specs.Rows.{inRecord, place, isFrame, withFlags, climb}
-use Rattle.rules.specs.Steps.{step, reach, position, steps, hiderOf, visible}
+use Rattle.rules.specs.Steps.{step, reach, position, steps, climbOf, hiderOf, visible}
 use Rattle.rules.specs.Moves.{opened, gone, without, hide, navigated, show, forward, backTarget, rowBefore, back, walked, shownDoc, changeRow, changes}
 use Rattle.rules.specs.Words.{put, tableOf, wordsOf, written}
 use Rattle.rules.specs.Sound.{soundTable?, sound?}
@@ -74,7 +74,7 @@ scripts =
 
 -- Each text prints what is expected of it, with room for eight rows.
 pub scripts-hold : map (λ s. printed 8 (s .text)) scripts ≡ map (λ s. s .expected) scripts
-unfolding someBelow allBelow count earliest latest tab gather inRecord place isFrame withFlags climb step reach position steps hiderOf visible
+unfolding someBelow allBelow count earliest latest tab gather inRecord place isFrame withFlags climb step reach position steps climbOf hiderOf visible
     opened gone without hide navigated show forward backTarget rowBefore back walked shownDoc changeRow changes
     put tableOf wordsOf written soundTable? sound? refusals accepted ladder outcome flatMap
     decimalBy decimal decimal? spelled upTo numeral starts? going otherWord worded parse statusText deniedText answerText turned linesFrom answers printed

@@ -7,7 +7,7 @@ use borrow.Author.Tests.{not-true, not-false}
 use denote.Ref.{now}
 use Rattle.rules.specs.Words.{rowsOf}
 use Rattle.reads.proofs.Scans.{found-lower}
-use Rattle.asks.proofs.Climbs.{hidden-ends, root-ends, climb-goes, lost-ends, coded-document, coded-nobody, coded-same}
+use Rattle.asks.proofs.Climbs.{hidden-ends, root-ends, climb-goes, lost-ends, coded-document, coded-nobody, coded-further, coded-lost, link-fits}
 use borrow.Fn.Kinds.{In}
 use borrow.Fn.PlainCycle.{Measures, is, falls, and}
 use Rattle.asks.proofs.ascend.Reads as ascend
@@ -86,18 +86,29 @@ module _ (t : ℕ) where
       let below = found-lower _ _ _ (sym (f .find-below .ensures) ∙ c .before .above .given .1) in
       (omega (arith, below, s .pre .0), search needs)
 
+  add-result : ascend-lts.Need-add-result (called t) (ascend-at t) ascend.Post
+  add-result c =
+      let f = c .before .before .before .before in
+      let s = f .before .before .before .before .before .before .before in
+      let below = found-lower _ _ _ (sym (f .find-below .ensures) ∙ c .before .before .above .given .1) in
+      let w = s .pre .1 in
+      omega (arith, link-fits (now (now (s .args .words))) _ _ (record { fits = w .fits; below = omega (arith, below, w .below) }) (c .ascend .ensures))
+
   enum-told : ascend-lts.Need-enum-told (called t) (ascend-at t) ascend.Post
   enum-told c = search needs
 
   wide-requires-2 : ascend-lts.Need-wide-requires-2 (called t) (ascend-at t) ascend.Post
   wide-requires-2 c κs = search needs
 
+  add-result-2 : ascend-lts.Need-add-result-2 (called t) (ascend-at t) ascend.Post
+  add-result-2 c = omega (arith, c .wide2 .ensures .1)
+
   returns-3 : ascend-lts.Need-returns-3 (called t) (ascend-at t) ascend.Post
   returns-3 c =
       let f = c .before .before .before .before in
       let p = f .before .before .before in
       let s = p .before .before in
-      coded-same _ _ _ (climb-goes (rowsOf (now (now (s .before .before .args .words)))) _ _ (s .is-shown .ensures) _ (not-false _ (p .before .if1 .left)) (p .parent .ensures)
+      coded-further _ _ _ (climb-goes (rowsOf (now (now (s .before .before .args .words)))) _ _ (s .is-shown .ensures) _ (not-false _ (p .before .if1 .left)) (p .parent .ensures)
       _ (f .before .if2 .left) (f .find-below .ensures) _ (c .before .before .above .given .1)) (c .ascend .ensures)
 
   returns-4 : ascend-lts.Need-returns-4 (called t) (ascend-at t) ascend.Post
@@ -106,10 +117,10 @@ module _ (t : ℕ) where
       let p = f .before .before .before in
       let s = p .before .before in
       let w = c .wide2 .ensures in
-      coded-document _ _ _ (lost-ends (rowsOf (now (now (s .before .before .args .words)))) _ _ (s .is-shown .ensures) _ (not-false _ (p .before .if1 .left)) (p .parent .ensures)
+      coded-lost _ _ (lost-ends (rowsOf (now (now (s .before .before .args .words)))) _ _ (s .is-shown .ensures) _ (not-false _ (p .before .if1 .left)) (p .parent .ensures)
       _ (f .before .if2 .left) (f .find-below .ensures) (c .before .enum-told .given .1)) (w .0) (w .1)
 
 pub +ascend-spec : {M : Type 1} → statement M
 +ascend-spec = close μ-ascend λ t. ascend-lts.spec (called t) (ascend-at t) ascend.Post
     (is-shown-requires t) (document-requires t) (wide-requires t) (returns t) (parent-requires t) (returns-2 t) (find-below-requires t) (enum-known-above t)
-    (ascend-requires t) (enum-told t) (wide-requires-2 t) (returns-3 t) (returns-4 t)
+    (ascend-requires t) (add-result t) (enum-told t) (wide-requires-2 t) (add-result-2 t) (returns-3 t) (returns-4 t)

@@ -14,15 +14,21 @@ seen-spec =
     (λ c. search needs)
     (λ c. search needs)
     (λ c κs. search needs)
+    (λ c κs. search needs)
+    (λ c κs. search needs)
     (λ c. search needs)
     (λ c. search needs)
     (λ c. let c2 = c .before .before in
     seen-absent (now (c2 .before .before .args .words)) _ _ (c2 .find .ensures) (c .enum-told .given .1))
-    (λ c. let c2 = c .before .before in
-    let c4 = c2 .before .before in
-    let c6 = c4 .before .before in
-    seen-by (now (c6 .before .before .args .words)) _ _ (c6 .find .ensures) _ (c4 .at .given .1) _ (sym (ap hiderIs (c .enum-told2 .given .1)) ∙ c2 .hiding .ensures))
-    (λ c. let c3 = c .before .before .before in
-    let c5 = c3 .before .before in
-    let c7 = c5 .before .before in
-    seen-by (now (c7 .before .before .args .words)) _ _ (c7 .find .ensures) _ (c5 .at .given .1) _ (sym (ap hiderIs (c .before .h .given .1)) ∙ c3 .hiding .ensures)))
+    (λ c. let t = c .before .before in
+    let n = t .before in
+    let k = n .before in
+    let a = k .before .before in
+    let f = a .before .before in
+    seen-by (now (f .before .before .args .words)) _ _ (f .find .ensures) _ (a .at .given .1) _ _ _ (k .climbed .ensures) (sym (ap hiderIs (c .enum-told2 .given .1)) ∙ t .told .ensures) (n .links .ensures))
+    (λ c. let t = c .before .before .before in
+    let n = t .before in
+    let k = n .before in
+    let a = k .before .before in
+    let f = a .before .before in
+    seen-by (now (f .before .before .args .words)) _ _ (f .find .ensures) _ (a .at .given .1) _ _ _ (k .climbed .ensures) (sym (ap hiderIs (c .before .h .given .1)) ∙ t .told .ensures) (n .links .ensures)))

@@ -1,7 +1,9 @@
 -- `frame_history_visible` meets its contract. Assumes nothing.
 use borrow.Author.Needs.{needs}
 use mathlib.Core.Path.{ap}
+use native.Mathlib.Omega.{arith}
 use Rattle.asks.specs.Answers.{sightIs}
+use Rattle.frame_history.proofs.Bounds.{links-small}
 use Rattle.frame_history.proofs.Faces.{face-gives, face-refuses}
 use Rattle.frame_history.proofs.frame_history_visible.Statement.{statement}
 use Rattle.frame_history.proofs.frame_history_visible.Tie as tie
@@ -11,9 +13,11 @@ frame-history-visible-spec =
     tie.close (tie.spec
     (λ c κs. search needs)
     (λ c. search needs)
+    (λ c. omega (arith, links-small _ _ _ _ _ _ _ (c .before .before .before .visible .ensures) (ap sightIs (c .before .n .given .1))))
     (λ c. search needs)
+    (λ c. omega (arith, links-small _ _ _ _ _ _ _ (c .before .before .before .visible .ensures) (ap sightIs (c .before .h .given .1))))
     (λ c. search needs)
     (λ c κs. search needs)
-    (λ c. face-gives _ _ _ _ (c .before .before .visible .ensures) _ (ap sightIs (c .enum-told .given .1)))
+    (λ c. face-gives _ _ _ _ (c .before .before .before .visible .ensures) _ (ap sightIs (c .before .n .given .1)))
     (λ c. face-gives _ _ _ _ (c .before .before .before .visible .ensures) _ (ap sightIs (c .before .h .given .1)))
     (λ c. face-refuses _ _ _ _ (c .before .before .before .before .visible .ensures) _ _ _ (ap sightIs (c .before .before .r .given .1)) (c .refusal-number .ensures)))

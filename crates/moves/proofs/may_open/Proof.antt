@@ -23,8 +23,8 @@ may-open-spec =
     (λ c. let c1 = c .before in
     let c3 = c1 .before .before in
     let c5 = c3 .before .before in
-    not-shown (now (c5 .args .words)) (c5 .pre) _ (roomRungs (now (c5 .args .words))) _ (c3 .seen .ensures) _ (c1 .h .given .1))
+    not-shown (now (c5 .args .words)) (c5 .pre) _ (roomRungs (now (c5 .args .words))) _ (c3 .seen .ensures) _ _ (c1 .h .given .1))
     (λ c. let c1 = c .before in
     let c3 = c1 .before .before in
     let c5 = c3 .before .before in
-    shown-there (now (c5 .args .words)) (c5 .pre) _ (roomRungs (now (c5 .args .words))) _ (c3 .seen .ensures) (c1 .enum-told .given .1) (c .judge-room .result) (c .judge-room .ensures)))
+    shown-there (now (c5 .args .words)) (c5 .pre) _ (roomRungs (now (c5 .args .words))) _ (c3 .seen .ensures) _ (c1 .enum-told .given .1) (c .judge-room .result) (c .judge-room .ensures)))
