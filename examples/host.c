@@ -1,13 +1,13 @@
-/* A clerk at the order desk: a stock list and a quotation side by side in one window. The clerk goes on in both, goes back once, and
-   follows another link. What was ahead is gone, and its number never comes back. A click that comes too late, from a frame that is no
-   longer to be seen, is refused, and support is told which document hides it. Then the clerk picks cash sale, and the quotation's page
-   takes its price frame out.
+/* A clerk at the order desk: a stock list and a quotation side by side in one window. The clerk scrolls down the quotation, goes on in
+   both, goes back once and finds the line again, and follows another link. What was ahead is gone, and its number never comes back. A
+   click that comes too late, from a frame that is no longer to be seen, is refused, and support is told which document hides it. Then the
+   clerk picks cash sale, and the quotation's page takes its price frame out.
 
    Link with libframe_history.a, which `rt staticlib frame_history` writes. */
 #include "frame_history.h"
 #include <stdio.h>
 
-enum { ROWS = 8, WORDS = 3 + 4 * ROWS };
+enum { ROWS = 8, WORDS = 3 + 4 * ROWS, ENTRIES = 3 };
 
 /* What a call returned that should not have been refused. */
 static int refused(const char *call, uint32_t number) {
@@ -50,6 +50,42 @@ static int click(uint32_t *words, uint32_t from, uint32_t hider) {
   return number != FRAME_HISTORY_HIDDEN || hiding != hider || document != 7;
 }
 
+/* The store of scroll places, with all its entries free, and as the library takes it. */
+static frame_history_place_entry entries[ENTRIES] = {{FRAME_HISTORY_FREE, 0, 0, 0}, {FRAME_HISTORY_FREE, 0, 0, 0}, {FRAME_HISTORY_FREE, 0, 0, 0}};
+static uint64_t *const places = (uint64_t *)entries;
+enum { PLACES = 4 * ENTRIES };
+
+/* Notes how far down a document the clerk has scrolled. */
+static int scroll(const uint32_t *words, uint32_t document, double y) {
+  frame_history_point point = {0, y};
+  if (refused("place_at", frame_history_place_at(words, WORDS, places, PLACES, document, point))) return 1;
+  printf("document %u is scrolled down by %g\n", (unsigned)document, y);
+  return 0;
+}
+
+/* Where a document has to stand when it is shown again; of a point also where that is at a page zoom. */
+static int restore(const uint32_t *words, uint32_t document, double zoom) {
+  uint32_t kind;
+  double x, y;
+  if (refused("place", frame_history_place(words, WORDS, places, PLACES, document, &kind, &x, &y))) return 1;
+  if (kind == 0) {
+    printf("  document %u places itself\n", (unsigned)document);
+    return 0;
+  }
+  printf("  document %u is scrolled down by %g", (unsigned)document, y);
+  if (refused("place_at_zoom", frame_history_place_at_zoom(words, WORDS, places, PLACES, document, zoom, &kind, &x, &y))) return 1;
+  printf(", at zoom %g by %g\n", zoom, y);
+  return 0;
+}
+
+/* Which documents the store has entries of. */
+static void kept(void) {
+  printf("places are kept of documents");
+  for (int i = 0; i < ENTRIES; i++)
+    if (entries[i].document != FRAME_HISTORY_FREE) printf(" %u", (unsigned)entries[i].document);
+  printf("\n");
+}
+
 int main(void) {
   uint32_t words[WORDS], frame, stock, quotation, more, terms, other, prices, removed, answer = 7, hiding = 7, links = 7, number;
 
@@ -60,17 +96,26 @@ int main(void) {
   printf("quotation: document %u in frame %u\n", (unsigned)quotation, (unsigned)frame);
   stands(words);
 
+  if (scroll(words, quotation, 1312.5)) return 1;
   if (refused("navigate", frame_history_navigate(words, WORDS, stock, &more, &hiding))) return 1;
   printf("next page of the stock list: document %u\n", (unsigned)more);
   if (refused("navigate", frame_history_navigate(words, WORDS, quotation, &terms, &hiding))) return 1;
   printf("price terms: document %u\n", (unsigned)terms);
   stands(words);
 
+  if (scroll(words, terms, 64)) return 1;
+  if (refused("place_itself", frame_history_place_itself(words, WORDS, places, PLACES, more))) return 1;
+  kept();
+
   if (go(words, "back", -1)) return 1;
+  printf("the line is there again:\n");
+  if (restore(words, quotation, 1.5) || restore(words, stock, 1.5)) return 1;
 
   if (refused("navigate", frame_history_navigate(words, WORDS, quotation, &other, &hiding))) return 1;
   printf("another link: document %u, not %u\n", (unsigned)other, (unsigned)terms);
   stands(words);
+  if (scroll(words, other, 20.25)) return 1;
+  kept();
 
   if (refused("open", frame_history_open(words, WORDS, other, &prices, &frame, &hiding))) return 1;
   printf("prices: document %u in frame %u\n", (unsigned)prices, (unsigned)frame);

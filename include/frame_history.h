@@ -18,7 +18,8 @@
      change rows: four words, or one struct, a frame are always enough;
      lists: C words in each run are always enough, and so are as many as there are steps;
      outline: two words a row are always enough;
-     saved bytes: 12 + 16F + 4n for F frames and n rows, so 12 + 20C are always enough, and 10252 for any record. */
+     saved bytes: 12 + 16F + 4n for F frames and n rows, so 12 + 20C are always enough, and 10252 for any record;
+     a store of scroll places: as many entries as the record has room for rows are always enough. */
 #ifndef FRAME_HISTORY_H
 #define FRAME_HISTORY_H
 
@@ -33,6 +34,8 @@ extern "C" {
 enum {
   FRAME_HISTORY_SHORT_RECORD = 1, /* the record is under 7 words */
   FRAME_HISTORY_UNSOUND = 2,      /* the record is unsound */
+  FRAME_HISTORY_BAD_PLACES = 15,  /* the entries of the store that are not free hold a document twice, a kind above 1, or a point
+                                     that is NaN or infinite */
   FRAME_HISTORY_NOT_SAVED = 3,    /* the bytes are not bytes that frame_history_save writes */
   FRAME_HISTORY_ABSENT = 4,       /* the document, or for drop the frame, is not in the record */
   FRAME_HISTORY_ROOT_FRAME = 10,  /* the root frame cannot be taken out */
@@ -40,7 +43,9 @@ enum {
   FRAME_HISTORY_BEYOND = 6,       /* position + delta is below 0 or above steps; or a list is too short for the stretch */
   FRAME_HISTORY_FULL = 7,         /* no row is left */
   FRAME_HISTORY_USED_UP = 8,      /* the next document number, or for open the next frame number, is 4294967295 */
-  FRAME_HISTORY_SHORT_BUFFER = 9  /* a lent answer run is too short */
+  FRAME_HISTORY_SHORT_BUFFER = 9, /* a lent answer run is too short */
+  FRAME_HISTORY_NOT_FINITE = 11,  /* a coordinate, the zoom or a product is NaN or infinite */
+  FRAME_HISTORY_NO_ENTRY = 12     /* the store has no entry of the document and none that is free, even after freeing */
 };
 
 /* How much stack a call needs: so many bytes beneath its caller's frame, on x86-64. It is no more where more rows are in use or more is
@@ -147,6 +152,59 @@ uint32_t frame_history_save(const uint32_t *words, size_t n, uint8_t *bytes, siz
    Lent to write: the record. Lent to read: the bytes. Out: how many rows the record has; kept on refusal.
    Refused: 1, 3, 7. */
 uint32_t frame_history_load(uint32_t *words, size_t n, const uint8_t *bytes, size_t bytes_n, uint32_t *rows);
+
+/* SCROLL PLACES. For each document the host may keep either that the page places itself, or a point in CSS pixels. Places live in a store
+   that the host lends beside the record; the record is only read by these calls, and no other call has the store.
+
+   A store is a run of 64-bit words, four an entry: `places` points to the first word and `places_n` counts words, so four times the entries.
+   The same memory is an array of the struct below, with no conversion; lent so, `places` is the array cast to `uint64_t *`. Words past
+   the last whole entry are neither read nor written. To begin with, set every document to FRAME_HISTORY_FREE; the rest may be anything.
+
+   The library moves a double as it is, and multiplies it rounding to nearest, ties to even, subnormal numbers among them. A host that sets
+   another rounding mode, or flushes subnormal numbers to zero (as -ffast-math may), is outside that promise.
+
+   An entry belongs to a document's number. `frame_history_load` puts another record under the same store, and its documents would find the
+   places of equal numbers: lend a fresh store with it. */
+#define FRAME_HISTORY_FREE 4294967295u
+
+/* An entry: the document, or FRAME_HISTORY_FREE; 0 where the page places itself, 1 for the point; the point, used only for kind 1. */
+typedef struct {
+  uint64_t document;
+  uint64_t kind;
+  double x;
+  double y;
+} frame_history_place_entry;
+
+/* A point in CSS pixels. */
+typedef struct {
+  double x;
+  double y;
+} frame_history_point;
+
+/* Sets that the page of `document` places itself. First the entries of documents that are not in the record are freed, by their number
+   alone, which changes their document and nothing else; then the document's own entry is written, or without one the first that is
+   free. Its doubles and all other entries are kept.
+   Lent to read: the record. Lent to write: the store; a refused call frees nothing.
+   Refused: 1, 2, 15, 4, 12, in this order. */
+uint32_t frame_history_place_itself(const uint32_t *words, size_t n, uint64_t *places, size_t places_n, uint32_t document);
+
+/* Sets the place of `document` at `point`, likewise.
+   Lent to read: the record. Lent to write: the store; a refused call frees nothing.
+   Refused: 1, 2, 15, 4, 11, 12, in this order. */
+uint32_t frame_history_place_at(const uint32_t *words, size_t n, uint64_t *places, size_t places_n, uint32_t document,
+                                frame_history_point point);
+
+/* The place of `document`, bit for bit as it was set. A document without an entry places itself.
+   Lent to read: the record and the store. Out: 0 where the page places itself, and `x` and `y` are kept; 1 and the point; all kept on
+   refusal.
+   Refused: 1, 2, 15, 4, in this order. */
+uint32_t frame_history_place(const uint32_t *words, size_t n, const uint64_t *places, size_t places_n, uint32_t document,
+                             uint32_t *kind, double *x, double *y);
+
+/* The same at a page zoom: each coordinate times `zoom`, rounded once. The zoom is tested also where the page places itself.
+   Refused: 1, 2, 15, 4, 11, in this order. */
+uint32_t frame_history_place_at_zoom(const uint32_t *words, size_t n, const uint64_t *places, size_t places_n, uint32_t document,
+                                     double zoom, uint32_t *kind, double *x, double *y);
 
 #ifdef __cplusplus
 }

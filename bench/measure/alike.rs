@@ -20,11 +20,27 @@ fn others(call: Call, most: u32) -> Vec<Call> {
         Call::Navigate(_) => (0..=most).map(Call::Navigate).collect(),
         Call::Visible(_) => (0..=most).map(Call::Visible).collect(),
         Call::Drop(_) => (0..=most).map(Call::Drop).collect(),
+        Call::PlaceItself(_) => (0..=most).map(Call::PlaceItself).collect(),
+        Call::PlaceAt(_) => (0..=most).map(Call::PlaceAt).collect(),
+        Call::Place(_) => (0..=most).map(Call::Place).collect(),
+        Call::PlaceAtZoom(_) => (0..=most).map(Call::PlaceAtZoom).collect(),
         Call::Traverse(_) => amounts().map(Call::Traverse).collect(),
         Call::Stretch(_) => amounts().map(Call::Stretch).collect(),
         call => vec![call],
     }
 }
+
+/// Words of a store that tell: a free entry, what is above 32 bits, what is no kind, and doubles at the ends of their range.
+const TELLING: [u64; 8] = [
+    u32::MAX as u64,
+    1 << 32,
+    2,
+    u64::MAX,
+    f64::INFINITY.to_bits(),
+    f64::MAX.to_bits(),
+    1,
+    1 << 63,
+];
 
 /// What is lent, with one word or byte changed, or with one run cut short.
 fn damaged(lent: &Lent) -> Vec<Lent> {
@@ -47,6 +63,15 @@ fn damaged(lent: &Lent) -> Vec<Lent> {
     for k in 0..lent.bytes.len() {
         with(&|other| other.bytes.truncate(k));
         with(&|other| other.bytes[k] = other.bytes[k].wrapping_add(1));
+    }
+    for k in 0..lent.places.len() {
+        with(&|other| other.places.truncate(k));
+        for value in TELLING.into_iter().chain([lent.places[k] + 1]) {
+            with(&|other| other.places[k] = value);
+        }
+    }
+    for k in 0..lent.given.len() {
+        TELLING.iter().for_each(|&value| with(&|other| other.given[k] = value));
     }
     all
 }
@@ -79,6 +104,22 @@ pub fn check_hidden(words: &[u32]) {
     for call in [Call::Open(0), Call::Navigate(0), Call::Drop(0), Call::Visible(0)] {
         for call in others(call, lent.words[0] + 1) {
             both("hidden", call, &lent);
+        }
+    }
+}
+
+/// Fails where the libraries differ on a store without entries of the last documents, and with two others that are free or of documents that are gone.
+pub fn check_stores(words: &[u32]) {
+    let whole = Lent::with_store(words.to_vec());
+    for (first, second) in TELLING[..4].iter().flat_map(|first| TELLING[..4].iter().map(move |second| (*first, *second))) {
+        let mut lent = whole.clone();
+        let end = lent.places.len();
+        lent.places[end - 8] = first;
+        lent.places[end - 4] = second;
+        for call in [Call::PlaceItself(0), Call::PlaceAt(0), Call::Place(0), Call::PlaceAtZoom(0)] {
+            for call in others(call, words[0] + 1) {
+                both("stores", call, &lent);
+            }
         }
     }
 }

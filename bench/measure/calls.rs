@@ -2,6 +2,7 @@
 use crate::face::Face;
 use std::hint::black_box;
 use std::ops::Range;
+use twin::face::Point;
 
 #[derive(Clone, Copy, PartialEq)]
 pub enum Call {
@@ -17,9 +18,21 @@ pub enum Call {
     Outline,
     Save,
     Load,
+    PlaceItself(u32),
+    PlaceAt(u32),
+    Place(u32),
+    PlaceAtZoom(u32),
 }
 
-/// What is lent: the record, two runs of words, a run of bytes, and the out words.
+impl Call {
+    /// Whether it is lent a store of places.
+    pub fn has_store(self) -> bool {
+        matches!(self, Call::PlaceItself(_) | Call::PlaceAt(_) | Call::Place(_) | Call::PlaceAtZoom(_))
+    }
+}
+
+/// What is lent: the record, two runs of words, a run of bytes, the out words; a store of places with the bits of what goes with it, a point of which
+/// the first is also the zoom, and those of the out doubles.
 #[derive(Clone, PartialEq, Debug)]
 pub struct Lent {
     pub words: Vec<u32>,
@@ -27,13 +40,24 @@ pub struct Lent {
     pub second: Vec<u32>,
     pub bytes: Vec<u8>,
     pub outs: [u32; 3],
+    pub places: Vec<u64>,
+    pub given: [u64; 2],
+    pub doubles: [u64; 2],
 }
 
 impl Lent {
     /// A record, with runs that are long enough for every answer.
     pub fn new(words: Vec<u32>) -> Lent {
         let len = words.len();
-        Lent { words, first: vec![7; len], second: vec![7; len], bytes: vec![7; 5 * len], outs: [7; 3] }
+        let given = [1.25f64, -0.0].map(f64::to_bits);
+        Lent { words, first: vec![7; len], second: vec![7; len], bytes: vec![7; 5 * len], outs: [7; 3], places: vec![], given, doubles: [7; 2] }
+    }
+
+    /// A record with a store of as many entries as it has documents, in their order and each at a point.
+    pub fn with_store(words: Vec<u32>) -> Lent {
+        let rows = &words[3..].as_chunks::<4>().0[..words[0] as usize];
+        let places = rows.iter().flat_map(|row| [row[0] as u64, 1, (row[0] as f64 / 8.0).to_bits(), 0.5f64.to_bits()]).collect();
+        Lent { places, ..Lent::new(words) }
     }
 }
 
@@ -46,6 +70,10 @@ pub fn make(face: &Face, call: Call, lent: &mut Lent) -> u32 {
     let (first, first_count) = (lent.first.as_mut_ptr(), lent.first.len());
     let (second, second_count) = (lent.second.as_mut_ptr(), lent.second.len());
     let (bytes, bytes_count) = (lent.bytes.as_mut_ptr(), lent.bytes.len());
+    let (places, places_count) = (black_box(lent.places.as_mut_ptr()), lent.places.len());
+    let [x, y] = lent.given.map(f64::from_bits);
+    let mut doubles = lent.doubles.map(f64::from_bits);
+    let [p, q] = &mut doubles;
     // SAFETY: each pointer comes with the length of its own run, and the runs and out words are apart.
     let answer = unsafe {
         match call {
@@ -61,8 +89,13 @@ pub fn make(face: &Face, call: Call, lent: &mut Lent) -> u32 {
             Call::Outline => (face.outline)(words, count, first, first_count, a),
             Call::Save => (face.save)(words, count, bytes, bytes_count, a),
             Call::Load => (face.load)(words, count, bytes, bytes_count, a),
+            Call::PlaceItself(document) => (face.place_itself)(words, count, places, places_count, black_box(document)),
+            Call::PlaceAt(document) => (face.place_at)(words, count, places, places_count, black_box(document), black_box(Point { x, y })),
+            Call::Place(document) => (face.place)(words, count, places, places_count, black_box(document), a, p, q),
+            Call::PlaceAtZoom(document) => (face.place_at_zoom)(words, count, places, places_count, black_box(document), black_box(x), a, p, q),
         }
     };
+    lent.doubles = doubles.map(f64::to_bits);
     black_box(answer)
 }
 

@@ -49,6 +49,7 @@ fn saved(words: &[u32]) -> Lent {
 /// Every call on records of a shape with so many rows, before or after it.
 pub fn cases(shape: Shape, rows: usize) -> Vec<Case> {
     let case = |name, call, words: &[u32]| Case { name, call, lent: Lent::new(words.to_vec()) };
+    let placed = |name, call, words: &[u32]| Case { name, call, lent: Lent::with_store(words.to_vec()) };
     let whole = record(shape, rows, rows);
     let less = record(shape, rows - 1, rows);
     let stepped = after(Call::Navigate(last(&less)), &less).words;
@@ -67,6 +68,10 @@ pub fn cases(shape: Shape, rows: usize) -> Vec<Case> {
         case("outline", Call::Outline, &whole),
         case("save", Call::Save, &whole),
         Case { name: "load", call: Call::Load, lent: saved(&whole) },
+        placed("place itself", Call::PlaceItself(last(&whole)), &whole),
+        placed("place at", Call::PlaceAt(last(&whole)), &whole),
+        placed("place", Call::Place(last(&whole)), &whole),
+        placed("place at zoom", Call::PlaceAtZoom(last(&whole)), &whole),
     ];
     if shape == Shape::Desk {
         let steps = after(Call::Position, &stepped).outs[1] as i32;

@@ -1,9 +1,10 @@
 //! Both libraries through one face.
-use twin::face;
+use twin::face::{self, Point};
 
 type Words = *mut u32;
 type Read = *const u32;
 type Out<'a> = &'a mut u32;
+type Real<'a> = &'a mut f64;
 
 /// The calls of include/frame_history.h.
 pub struct Face {
@@ -19,6 +20,10 @@ pub struct Face {
     pub outline: unsafe extern "C" fn(Read, usize, Words, usize, Out) -> u32,
     pub save: unsafe extern "C" fn(Read, usize, *mut u8, usize, Out) -> u32,
     pub load: unsafe extern "C" fn(Words, usize, *const u8, usize, Out) -> u32,
+    pub place_itself: unsafe extern "C" fn(Read, usize, *mut u64, usize, u32) -> u32,
+    pub place_at: unsafe extern "C" fn(Read, usize, *mut u64, usize, u32, Point) -> u32,
+    pub place: unsafe extern "C" fn(Read, usize, *const u64, usize, u32, Out, Real, Real) -> u32,
+    pub place_at_zoom: unsafe extern "C" fn(Read, usize, *const u64, usize, u32, f64, Out, Real, Real) -> u32,
 }
 
 extern "C" {
@@ -43,6 +48,20 @@ extern "C" {
     fn frame_history_outline(words: Read, count: usize, pairs: Words, pairs_count: usize, written: Out) -> u32;
     fn frame_history_save(words: Read, count: usize, bytes: *mut u8, bytes_count: usize, length: Out) -> u32;
     fn frame_history_load(words: Words, count: usize, bytes: *const u8, bytes_count: usize, rows: Out) -> u32;
+    fn frame_history_place_itself(words: Read, count: usize, places: *mut u64, places_count: usize, document: u32) -> u32;
+    fn frame_history_place_at(words: Read, count: usize, places: *mut u64, places_count: usize, document: u32, point: Point) -> u32;
+    fn frame_history_place(words: Read, count: usize, places: *const u64, places_count: usize, document: u32, kind: Out, x: Real, y: Real) -> u32;
+    fn frame_history_place_at_zoom(
+        words: Read,
+        count: usize,
+        places: *const u64,
+        places_count: usize,
+        document: u32,
+        zoom: f64,
+        kind: Out,
+        x: Real,
+        y: Real,
+    ) -> u32;
 }
 
 pub static OURS: Face = Face {
@@ -58,6 +77,10 @@ pub static OURS: Face = Face {
     outline: frame_history_outline,
     save: frame_history_save,
     load: frame_history_load,
+    place_itself: frame_history_place_itself,
+    place_at: frame_history_place_at,
+    place: frame_history_place,
+    place_at_zoom: frame_history_place_at_zoom,
 };
 
 pub static TWIN: Face = Face {
@@ -73,4 +96,8 @@ pub static TWIN: Face = Face {
     outline: face::outline,
     save: face::save,
     load: face::load,
+    place_itself: face::place_itself,
+    place_at: face::place_at,
+    place: face::place,
+    place_at_zoom: face::place_at_zoom,
 };

@@ -17,7 +17,7 @@ use std::process::Command;
 const ROWS: [usize; 3] = [3, 30, 512];
 const RUNS: usize = 8;
 
-/// The targets: for every ratio, and for the passes of the shape desk.
+/// The targets: for every ratio, and for the passes of the shape desk, but of the calls with a store, whose test is of each pair of entries.
 const RATIO: f64 = 1.2;
 const PASSES: f64 = 3.0;
 
@@ -68,10 +68,11 @@ fn print_shape(shape: Shape, times: &mut impl Iterator<Item = f64>) {
     sizes.iter().flatten().for_each(alike::check);
     sizes[..2].iter().flatten().for_each(alike::check_near);
     ROWS[..2].iter().for_each(|&rows| alike::check_hidden(&record(shape, rows - 1, rows)));
+    ROWS[..2].iter().for_each(|&rows| alike::check_stores(&record(shape, rows, rows)));
     let pass = ROWS.map(|_| next());
-    let most_passes = if shape == Shape::Desk { PASSES } else { f64::MAX };
     println!("{HEAD}");
     for case in &sizes[0] {
+        let most_passes = if shape == Shape::Desk && !case.call.has_store() { PASSES } else { f64::MAX };
         let [a, b, c] = ROWS.map(|_| (next(), next()));
         print!("| {} |", case.name);
         for (ours, twin) in [a, b, c] {

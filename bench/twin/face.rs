@@ -1,4 +1,5 @@
 //! The calls as a host in C would call them, so that both libraries are measured through the same face: see include/frame_history.h.
+use crate::places::{self, Place};
 use crate::record::{NONE, Refusal};
 use crate::{asks, moves, outline, saved, traverse};
 use std::slice::{from_raw_parts as lent, from_raw_parts_mut as lent_mut};
@@ -98,4 +99,59 @@ pub unsafe extern "C" fn save(words: *const u32, count: usize, bytes: *mut u8, b
 /// A record from its saved form: how many rows.
 pub unsafe extern "C" fn load(words: *mut u32, count: usize, bytes: *const u8, bytes_count: usize, rows: &mut u32) -> u32 {
     answer(saved::load(lent_mut(words, count), lent(bytes, bytes_count)), |n| *rows = n as u32)
+}
+
+/// A point in CSS pixels.
+#[repr(C)]
+#[derive(Clone, Copy)]
+pub struct Point {
+    pub x: f64,
+    pub y: f64,
+}
+
+/// Sets that a document's page places itself.
+pub unsafe extern "C" fn place_itself(words: *const u32, count: usize, places: *mut u64, places_count: usize, document: u32) -> u32 {
+    answer(places::set(lent(words, count), lent_mut(places, places_count), document, Place::Itself), |()| ())
+}
+
+/// Sets a document's place at a point.
+pub unsafe extern "C" fn place_at(words: *const u32, count: usize, places: *mut u64, places_count: usize, document: u32, point: Point) -> u32 {
+    answer(places::set(lent(words, count), lent_mut(places, places_count), document, Place::At(point.x, point.y)), |()| ())
+}
+
+/// Hands over the kind of a place, and the point of one that has it.
+fn answer_place(result: Result<Place, Refusal>, kind: &mut u32, x: &mut f64, y: &mut f64) -> u32 {
+    answer(result, |place| match place {
+        Place::Itself => *kind = 0,
+        Place::At(a, b) => (*kind, *x, *y) = (1, a, b),
+    })
+}
+
+/// A document's place: its kind and point.
+pub unsafe extern "C" fn place(
+    words: *const u32,
+    count: usize,
+    places: *const u64,
+    places_count: usize,
+    document: u32,
+    kind: &mut u32,
+    x: &mut f64,
+    y: &mut f64,
+) -> u32 {
+    answer_place(places::place(lent(words, count), lent(places, places_count), document), kind, x, y)
+}
+
+/// The same at a page zoom.
+pub unsafe extern "C" fn place_at_zoom(
+    words: *const u32,
+    count: usize,
+    places: *const u64,
+    places_count: usize,
+    document: u32,
+    zoom: f64,
+    kind: &mut u32,
+    x: &mut f64,
+    y: &mut f64,
+) -> u32 {
+    answer_place(places::place_at_zoom(lent(words, count), lent(places, places_count), document, zoom), kind, x, y)
 }

@@ -3,6 +3,7 @@ mod asks;
 pub mod face;
 mod moves;
 mod outline;
+mod places;
 pub mod record;
 mod saved;
 pub mod script;

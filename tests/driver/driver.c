@@ -1,11 +1,13 @@
 /* Runs calls of the library's archive that are asked for on standard input, and answers on standard output.
    No headers: the kit's own compiler builds it on either machine.
 
-   A request is HEAD words, then the lent runs: words, first, second, bytes (padded with zeros to whole words).
+   A request is HEAD words, then the lent runs: words, first, second, places, bytes (padded with zeros to whole words).
      0 call   1 number   2 how the runs lie   3 guard word   4 5 6 the out words' earlier values
-     7 8 9 counts of words, first and second   10 count of bytes
-   An answer is the refusal (or 0), the three out words, the guards (0 when every one is intact), then the same runs
-   as they are after the call, those that are lent for reading alone among them.
+     7 8 9 10 11 counts of words, first, second, places (of 64 bits each) and bytes
+     12 to 15 the doubles given: a point, or a zoom and nothing   16 to 19 the out doubles' earlier values
+   A double goes by its bits, in two words, the lower first; so does a word of 64 bits.
+   An answer is the refusal (or 0), the three out words, the guards (0 when every one is intact), the two out doubles, then the
+   same runs as they are after the call, those that are lent for reading alone among them.
 
    How the runs lie: 0, guard words on both sides; 1, guard words before, and no page after the run's end;
    2, no page before the run's start, and guard words after. A touch of a missing page ends the program. */
@@ -13,6 +15,7 @@ typedef unsigned char u8;
 typedef unsigned int u32;
 typedef int i32;
 typedef unsigned long usize;
+typedef unsigned long u64;
 
 long read(int, void *, usize);
 long write(int, const void *, usize);
@@ -20,6 +23,7 @@ void *mmap(void *, usize, int, int, int, long);
 int mprotect(void *, usize, int);
 
 typedef struct { u32 frame, before, after, load; } row;
+typedef struct { double x, y; } point;
 
 u32 frame_history_fresh(u32 *words, usize n);
 u32 frame_history_open(u32 *words, usize n, u32 parent, u32 *document, u32 *frame, u32 *hiding);
@@ -34,9 +38,14 @@ u32 frame_history_stretch(const u32 *taken, usize taken_n, const u32 *upcoming, 
 u32 frame_history_outline(const u32 *words, usize n, u32 *pairs, usize pairs_n, u32 *count);
 u32 frame_history_save(const u32 *words, usize n, u8 *bytes, usize bytes_n, u32 *length);
 u32 frame_history_load(u32 *words, usize n, const u8 *bytes, usize bytes_n, u32 *rows);
+u32 frame_history_place_itself(const u32 *words, usize n, u64 *places, usize places_n, u32 document);
+u32 frame_history_place_at(const u32 *words, usize n, u64 *places, usize places_n, u32 document, point at);
+u32 frame_history_place(const u32 *words, usize n, const u64 *places, usize places_n, u32 document, u32 *kind, double *x, double *y);
+u32 frame_history_place_at_zoom(const u32 *words, usize n, const u64 *places, usize places_n, u32 document, double zoom, u32 *kind, double *x, double *y);
 
-enum { FRESH, OPEN, NAVIGATE, TRAVERSE, DROP, POSITION, VISIBLE, LISTS, STRETCH, OUTLINE, SAVE, LOAD, NO_CALL = 99 };
-enum { HEAD = 11, RUNS = 4, PAGE = 65536, AREA = 2 * PAGE, GUARD = 64 };
+enum { FRESH, OPEN, NAVIGATE, TRAVERSE, DROP, POSITION, VISIBLE, LISTS, STRETCH, OUTLINE, SAVE, LOAD, PLACE_ITSELF, PLACE_AT, PLACE, PLACE_AT_ZOOM, NO_CALL = 99 };
+enum { WORDS, FIRST, SECOND, PLACES, BYTES, RUNS };
+enum { HEAD = 20, PAGE = 65536, AREA = 2 * PAGE, GUARD = 64 };
 
 /* Standard input and output, each through a buffer. What is written goes out before the program waits for more. */
 static u8 in[1 << 20], out[1 << 20];
@@ -97,11 +106,11 @@ static int make_areas(void) {
   return 1;
 }
 
-/* Where a run of `size` bytes starts. The odd byte of `shift` moves a run of bytes off the word boundary. */
-static u8 *run_start(int r, u32 lie, usize size, usize shift) {
+/* Where a run of `size` bytes starts. A run of bytes may start off the word boundary, by the guard word; places are of eight bytes each. */
+static u8 *run_start(int r, u32 lie, usize size, u32 guard) {
   if (lie == 1) return areas[r] + AREA - size;
   if (lie == 2) return areas[r];
-  return areas[r] + GUARD + 4 + shift;
+  return areas[r] + GUARD + (r == PLACES ? 8 : 4) + (r == BYTES ? guard & 3 : 0);
 }
 
 static u8 guard_byte(u32 guard, const u8 *p) { return (u8)(guard >> (8 * ((usize)p & 3))); }
@@ -124,10 +133,20 @@ static int intact(int r, const u8 *start, usize size, u32 guard) {
 /* The out words stand apart, each between two guard words. */
 static u32 outs[7];
 
+/* So do the out doubles, and each double can be had by its bits. */
+typedef union { u32 halves[2]; double value; } bits;
+static bits doubles[5];
+
+static bits bits_of(const u32 *halves) { return (bits){{halves[0], halves[1]}}; }
+
 static u32 call(const u32 *head, u8 **run) {
-  u32 *words = (u32 *)run[0], *first = (u32 *)run[1], *second = (u32 *)run[2];
-  usize n = head[7], first_n = head[8], second_n = head[9], bytes_n = head[10];
+  u32 *words = (u32 *)run[WORDS], *first = (u32 *)run[FIRST], *second = (u32 *)run[SECOND];
+  u64 *places = (u64 *)run[PLACES];
+  u8 *bytes = run[BYTES];
+  usize n = head[7], first_n = head[8], second_n = head[9], places_n = head[10], bytes_n = head[11];
   u32 *a = outs + 1, *b = outs + 3, *c = outs + 5, number = head[1];
+  bits given[2] = {bits_of(head + 12), bits_of(head + 14)};
+  double *x = &doubles[1].value, *y = &doubles[3].value;
   switch (head[0]) {
   case FRESH: return frame_history_fresh(words, n);
   case OPEN: return frame_history_open(words, n, number, a, b, c);
@@ -142,8 +161,12 @@ static u32 call(const u32 *head, u8 **run) {
   case LISTS: return frame_history_lists(words, n, first, first_n, second, second_n, a, b);
   case STRETCH: return frame_history_stretch(first, first_n, second, second_n, (i32)number, a);
   case OUTLINE: return frame_history_outline(words, n, first, first_n, a);
-  case SAVE: return frame_history_save(words, n, run[3], bytes_n, a);
-  case LOAD: return frame_history_load(words, n, run[3], bytes_n, a);
+  case SAVE: return frame_history_save(words, n, bytes, bytes_n, a);
+  case LOAD: return frame_history_load(words, n, bytes, bytes_n, a);
+  case PLACE_ITSELF: return frame_history_place_itself(words, n, places, places_n, number);
+  case PLACE_AT: return frame_history_place_at(words, n, places, places_n, number, (point){given[0].value, given[1].value});
+  case PLACE: return frame_history_place(words, n, places, places_n, number, a, x, y);
+  case PLACE_AT_ZOOM: return frame_history_place_at_zoom(words, n, places, places_n, number, given[0].value, a, x, y);
   }
   return NO_CALL;
 }
@@ -152,26 +175,29 @@ int main(void) {
   u32 head[HEAD];
   if (!make_areas()) return 3;
   while (take(head, sizeof head)) {
-    u32 guard = head[3], reply[5], padding = 0;
-    usize size[RUNS] = {4ul * head[7], 4ul * head[8], 4ul * head[9], head[10]};
+    u32 guard = head[3], reply[9], padding = 0, guards[2] = {guard, guard};
+    usize size[RUNS] = {4ul * head[7], 4ul * head[8], 4ul * head[9], 8ul * head[10], head[11]};
     u8 *run[RUNS];
     for (int r = 0; r < RUNS; r++) {
       if (size[r] + 2 * GUARD + 8 > AREA) return 4;
-      run[r] = run_start(r, head[2], size[r], r == 3 ? guard & 3 : 0);
+      run[r] = run_start(r, head[2], size[r], guard);
       set_guards(r, run[r], size[r], guard);
       if (!take(run[r], size[r])) return 5;
     }
-    if (!take(&padding, -size[3] & 3)) return 5;
+    if (!take(&padding, -size[BYTES] & 3)) return 5;
     for (int i = 0; i < 7; i++) outs[i] = i % 2 ? head[4 + i / 2] : guard;
+    for (int i = 0; i < 5; i++) doubles[i] = bits_of(i % 2 ? head + 15 + i : guards);
     reply[0] = call(head, run);
     reply[4] = 0;
     for (int i = 0; i < 3; i++) reply[1 + i] = outs[2 * i + 1];
+    for (int i = 0; i < 4; i++) reply[5 + i] = doubles[i / 2 * 2 + 1].halves[i % 2];
     for (int r = 0; r < RUNS; r++) if (!intact(r, run[r], size[r], guard)) reply[4] |= 1u << r;
     for (int i = 0; i < 7; i += 2) if (outs[i] != guard) reply[4] |= 1u << RUNS;
+    for (int i = 0; i < 10; i++) if (i / 2 % 2 == 0 && doubles[i / 2].halves[i % 2] != guard) reply[4] |= 2u << RUNS;
     if (!give(reply, sizeof reply)) return 6;
     for (int r = 0; r < RUNS; r++) if (!give(run[r], size[r])) return 6;
     padding = 0;
-    if (!give(&padding, -size[3] & 3)) return 6;
+    if (!give(&padding, -size[BYTES] & 3)) return 6;
   }
   return flush() ? 0 : 6;
 }

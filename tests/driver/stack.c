@@ -18,19 +18,23 @@ int mprotect(void *, size_t, int);
 enum { ROWS = 512, WORDS = 3 + 4 * ROWS, BYTES = 12 + 20 * ROWS, PAGE = 65536, STACK = 2 * PAGE, MORE = PAGE / 4 };
 static const uint32_t NONE = 4294967295u;
 
-/* What is lent to a call: the number, the record, runs that are long enough for every answer, the out words. Of the record also what it
-   is called and how many levels of documents are visible in it. */
+/* What is lent to a call: the number, the record, runs that are long enough for every answer, the out words; a store of places, with
+   the point or zoom that goes with it, and the out doubles. Of the record also what it is called and how many levels of documents are
+   visible in it. */
 typedef struct {
   const char *shape, *state;
   uint32_t number, words[WORDS], first[4 * ROWS], second[ROWS], outs[3];
   uint8_t bytes[BYTES];
-  size_t n, first_n, second_n, bytes_n, levels;
+  frame_history_place_entry places[ROWS];
+  frame_history_point point;
+  double zoom, x, y;
+  size_t n, first_n, second_n, bytes_n, entries, levels;
 } lent;
 
 typedef uint32_t made(lent *);
 
-/* Each makes one call. It ends with a jump into the library and so uses no stack of its own; that of lists, which has more arguments than
-   go in registers, uses 16 bytes. */
+/* Each makes one call. It ends with a jump into the library and so uses no stack of its own; those of lists, place and place_at_zoom, which
+   have more arguments than go in registers, use 16 bytes. */
 static uint32_t fresh(lent *l) { return frame_history_fresh(l->words, l->n); }
 static uint32_t open(lent *l) { return frame_history_open(l->words, l->n, l->number, l->outs, l->outs + 1, l->outs + 2); }
 static uint32_t navigate(lent *l) { return frame_history_navigate(l->words, l->n, l->number, l->outs, l->outs + 1); }
@@ -52,6 +56,18 @@ static uint32_t stretch(lent *l) {
 static uint32_t outline(lent *l) { return frame_history_outline(l->words, l->n, l->first, l->first_n, l->outs); }
 static uint32_t save(lent *l) { return frame_history_save(l->words, l->n, l->bytes, l->bytes_n, l->outs); }
 static uint32_t load(lent *l) { return frame_history_load(l->words, l->n, l->bytes, l->bytes_n, l->outs); }
+static uint32_t place_itself(lent *l) {
+  return frame_history_place_itself(l->words, l->n, (uint64_t *)l->places, 4 * l->entries, l->number);
+}
+static uint32_t place_at(lent *l) {
+  return frame_history_place_at(l->words, l->n, (uint64_t *)l->places, 4 * l->entries, l->number, l->point);
+}
+static uint32_t place(lent *l) {
+  return frame_history_place(l->words, l->n, (uint64_t *)l->places, 4 * l->entries, l->number, l->outs, &l->x, &l->y);
+}
+static uint32_t place_at_zoom(lent *l) {
+  return frame_history_place_at_zoom(l->words, l->n, (uint64_t *)l->places, 4 * l->entries, l->number, l->zoom, l->outs, &l->x, &l->y);
+}
 
 /* A call: its name after the prefix; whether it begins with refusal 1 (1), with 1 and 2 (2), or with neither (0); its bound, with what is
    added for each level; and what it keeps on the stack. */
@@ -72,6 +88,10 @@ static const struct { const char *name; made *make; int begins; size_t bound, le
   {"save", save, 2, FRAME_HISTORY_STACK, 0, "as open"},
   {"load", load, 1, FRAME_HISTORY_LOAD_STACK, 0,
    "a record of 2051 words, 8204 bytes, since the host's words are written only once the bytes are known to be Save's"},
+  {"place_itself", place_itself, 2, FRAME_HISTORY_STACK, 0, "as open, once more for the part that both calls that set a place share"},
+  {"place_at", place_at, 2, FRAME_HISTORY_STACK, 0, "as place_itself"},
+  {"place", place, 2, FRAME_HISTORY_STACK, 0, "as open, with the place before it is told, and two of its eight arguments"},
+  {"place_at_zoom", place_at_zoom, 2, FRAME_HISTORY_STACK, 0, "as place"},
 };
 enum { CALLS = sizeof calls / sizeof *calls };
 
@@ -341,6 +361,54 @@ static void on_load(lent *l) {
   l->bytes_n = BYTES;
 }
 
+/* A store with an entry for each row, at a point: of the row's document, of one that is not in the record, or of none. */
+enum { OWN, GONE, FREE, OWNERS };
+
+static void build_places(lent *l, int owner) {
+  l->entries = l->words[0];
+  l->point = (frame_history_point){1.5, -0.0};
+  l->zoom = 1.25;
+  for (size_t i = 0; i < l->entries; i++) {
+    uint64_t document = owner == OWN ? row(l, i)[0] : owner == GONE ? FRAME_HISTORY_FREE + 1ul + i : FRAME_HISTORY_FREE;
+    l->places[i] = (frame_history_place_entry){document, 1, (double)i, 0.5};
+  }
+}
+
+/* Those that are lent a store, of this document. */
+static void on_store(lent *l, uint32_t number, uint32_t answer) {
+  made *const all[] = {place_itself, place_at, place, place_at_zoom};
+  for (int c = 0; c < 4; c++) try(all[c], l, number, answer);
+}
+
+/* All of them of the first row's document, the last one's, and one that is not there, on each store; setting with no entry left; with what
+   is not finite; and with a last entry that does not pass. */
+static void on_places(lent *l) {
+  for (int owner = 0; owner < OWNERS; owner++) {
+    build_places(l, owner);
+    on_store(l, row(l, 0)[0], 0);
+    on_store(l, last(l)[0], 0);
+    on_store(l, l->words[1], FRAME_HISTORY_ABSENT);
+  }
+  build_places(l, OWN);
+  l->entries--;
+  try(place_itself, l, last(l)[0], FRAME_HISTORY_NO_ENTRY);
+  try(place_at, l, last(l)[0], FRAME_HISTORY_NO_ENTRY);
+  build_places(l, OWN);
+  l->point.y = l->zoom = __builtin_inf();
+  try(place_at, l, last(l)[0], FRAME_HISTORY_NOT_FINITE);
+  try(place_at_zoom, l, last(l)[0], FRAME_HISTORY_NOT_FINITE);
+  frame_history_place_entry *end = l->places + l->words[0] - 1;
+  end->y = l->zoom = 1e300;
+  try(place_at_zoom, l, last(l)[0], FRAME_HISTORY_NOT_FINITE);
+  end->y = __builtin_nan("");
+  on_store(l, last(l)[0], FRAME_HISTORY_BAD_PLACES);
+  end->kind = 2;
+  on_store(l, last(l)[0], FRAME_HISTORY_BAD_PLACES);
+  end->kind = 0;
+  end->document = l->places[0].document;
+  if (end != l->places) on_store(l, last(l)[0], FRAME_HISTORY_BAD_PLACES);
+}
+
 /* Every call on a sound record. */
 static void on_sound(lent *l, int state) {
   count_levels(l);
@@ -352,6 +420,7 @@ static void on_sound(lent *l, int state) {
   on_lists(l);
   on_writing(l);
   on_load(l);
+  on_places(l);
 }
 
 /* Every call that begins with the test of soundness, on a record with a word changed. */

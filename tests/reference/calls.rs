@@ -29,12 +29,12 @@ pub fn hidden_by<T>(document: u32) -> Answer<T> {
     Err(Refusal { number: 5, hiding: Some(document) })
 }
 
-fn refuse_when(number: u32, given: bool) -> Answer<()> {
+pub(crate) fn refuse_when(number: u32, given: bool) -> Answer<()> {
     if given { no(number) } else { Ok(()) }
 }
 
 /// Refusals 1 and 2, then the history that stands in the record.
-fn examined(words: &[u32]) -> Answer<History> {
+pub(crate) fn examined(words: &[u32]) -> Answer<History> {
     refuse_when(1, words.len() < FEWEST_WORDS)?;
     refuse_when(2, !is_sound(words))?;
     let history = History::of(&rows(words));

@@ -1,6 +1,8 @@
 //! Document 01's examples, and examples of document 02's requests. Each check panics with its name when the reference gives something else.
 use crate::calls::*;
+use crate::doubles::{product, Double};
 use crate::history::History;
+use crate::places::{place, place_at, place_at_zoom, place_itself, Place, FREE};
 use crate::record::{rows, NONE};
 use crate::script;
 use crate::sound::{broken, is_sound};
@@ -73,6 +75,9 @@ pub fn check_all() -> u32 {
     small_examples(&mut checks);
     drop_examples(&mut checks);
     hiding_examples(&mut checks);
+    place_examples(&mut checks);
+    freeing_examples(&mut checks);
+    zoom_examples(&mut checks);
     saved_examples(&mut checks);
     sound_clauses(&mut checks);
     script_examples(&mut checks);
@@ -277,6 +282,144 @@ fn hiding_examples(c: &mut Checks) {
     }
     c.same("full, and hidden", open(&mut nested.clone(), 2), hidden_by(1));
     c.same("full, and visible", open(&mut nested.clone(), 4), no(7));
+}
+
+/// A NaN with a payload, as a host may leave it in an entry that is free or of kind 0.
+const ODD: u64 = 0x7ff0_0000_dead_beef;
+
+/// An entry of a store.
+fn entry(document: u64, kind: u64, x: f64, y: f64) -> [u64; 4] {
+    [document, kind, x.to_bits(), y.to_bits()]
+}
+
+/// A point as it is given and answered.
+fn point(x: f64, y: f64) -> [Double; 2] {
+    [x.into(), y.into()]
+}
+
+/// What asking for a document's place answers where it is at a point.
+fn stands(x: f64, y: f64) -> Answer<Place> {
+    Ok(Place::Point(x.into(), y.into()))
+}
+
+/// L5: "the same bits back, negative zero included"; "15, right after 2"; "11 [..], then 12".
+fn place_examples(c: &mut Checks) {
+    let x = record_x();
+    let free = [FREE, 9, ODD, ODD];
+    let store = [free, free, entry(4, 1, 1.5, -0.0), [1, 0, ODD, ODD]].concat();
+    c.same("a point, negative zero included", place(&x, &store, 4), stands(1.5, -0.0));
+    c.same("itself", place(&x, &store, 1), Ok(Place::Itself));
+    c.same("no entry", place(&x, &store, 0), Ok(Place::Itself));
+
+    let after = |set: &dyn Fn(&mut Vec<u64>) -> Answer<()>| {
+        let mut store = store.clone();
+        (set(&mut store), store)
+    };
+    let with = |at: usize, entry: [u64; 4]| {
+        let mut store = store.clone();
+        store[4 * at..4 * at + 4].copy_from_slice(&entry);
+        store
+    };
+    c.same("its own entry", after(&|s| place_at(&x, s, 4, point(-0.0, 7.0))), (Ok(()), with(2, entry(4, 1, -0.0, 7.0))));
+    c.same("its own entry, which keeps its doubles", after(&|s| place_itself(&x, s, 4)), (Ok(()), with(2, entry(4, 0, 1.5, -0.0))));
+    c.same("the first free one", after(&|s| place_at(&x, s, 5, point(0.0, 1.0))), (Ok(()), with(0, entry(5, 1, 0.0, 1.0))));
+    c.same("the first free one, for either kind", after(&|s| place_itself(&x, s, 0)), (Ok(()), with(0, [0, 0, ODD, ODD])));
+    for (name, coordinates) in [("NaN", [f64::NAN, 1.0]), ("infinite", [1.0, f64::INFINITY]), ("infinite", [f64::NEG_INFINITY, 1.0])] {
+        c.same(name, after(&|s| place_at(&x, s, 4, coordinates.map(Double::from))), (no(11), store.clone()));
+    }
+    c.same("4 before 11", place_at(&x, &mut store.clone(), 6, point(f64::NAN, 0.0)), no(4));
+    c.same("11 before 12", place_at(&x, &mut [], 0, point(f64::NAN, 0.0)), no(11));
+    c.same("no entry at all", place_itself(&x, &mut [], 0), no(12));
+    c.same("three words are no entry", place_itself(&x, &mut [FREE, 0, 0], 0), no(12));
+    c.same("4294967295 is no document", place(&x, &store, NONE), no(4));
+
+    for (name, entry) in [
+        ("a document twice", [4, 0, 0, 0]),
+        ("a kind above 1", [3, 2, 0, 0]),
+        ("a kind above 32 bits", [3, 1 << 32, 0, 0]),
+        ("x is NaN", [3, 1, ODD, 0]),
+        ("y is infinite", [3, 1, 0, f64::INFINITY.to_bits()]),
+        ("of a document that is gone", [1 << 40, 2, 0, 0]),
+    ] {
+        let bad = with(1, entry);
+        c.same(name, place(&x, &bad, 0), no(15));
+        c.same("15 before 4", place_at_zoom(&x, &bad, 9, f64::NAN.into()), no(15));
+        let mut kept = bad.clone();
+        c.same("15 before 11", place_at(&x, &mut kept, 0, point(f64::NAN, 0.0)), no(15));
+        c.same("15 before 4", place_itself(&x, &mut kept, 9), no(15));
+        c.same("15 keeps the store", kept, bad);
+    }
+    c.same("a gone document twice", place(&x, &[[1 << 40, 0, 0, 0], [1 << 40, 0, 0, 0]].concat(), 0), no(15));
+    c.same("4 and 4 + 2^32 are two documents", place(&x, &with(1, entry(4 + (1 << 32), 1, 0.0, 0.0)), 4), stands(1.5, -0.0));
+    c.same("free entries hold nothing twice", place(&x, &[free, free].concat(), 0), Ok(Place::Itself));
+    c.same("past the last whole entry", place(&x, &[store.clone(), vec![4, 1, ODD]].concat(), 4), stands(1.5, -0.0));
+    c.same("six words", place(&[9; 6], &[4, 7, 0, 0], 0), no(1));
+    c.same("2 before 15", place(&[&[7], &x[1..]].concat(), &[4, 7, 0, 0], 0), no(2));
+}
+
+/// L5: "Setting first frees the entries of documents gone from the record, by their number alone".
+fn freeing_examples(c: &mut Checks) {
+    let x = record_x();
+    let gone = [entry(1, 1, 3.0, 4.0), entry(6, 1, 5.0, 6.0), entry(1 << 32, 1, 7.0, 8.0), entry(2, 0, 1.0, 2.0)].concat();
+    let mut store = gone.clone();
+    c.same("a freed entry is taken", place_itself(&x, &mut store, 0), Ok(()));
+    let after = [entry(1, 1, 3.0, 4.0), entry(0, 0, 5.0, 6.0), entry(FREE, 1, 7.0, 8.0), entry(2, 0, 1.0, 2.0)].concat();
+    c.same("freeing changes the document alone, and kind 0 keeps the doubles", store, after);
+    let mut store = gone.clone();
+    c.same("refused", place_at(&x, &mut store, 0, point(0.0, f64::NAN)), no(11));
+    c.same("a refused call frees nothing", store, gone.clone());
+    c.same("asking frees nothing", place(&x, &gone, 1), stands(3.0, 4.0));
+    let mut full = [entry(1, 1, 3.0, 4.0), entry(2, 0, 1.0, 2.0)].concat();
+    let before = full.clone();
+    c.same("no room even after freeing", place_at(&x, &mut full, 0, point(0.0, 0.0)), no(12));
+    c.same("12 keeps the store", full, before);
+    // "After a traversal it asks for a document's place": a hidden document has one too, and a gone one has none.
+    let mut window = fresh_record(4);
+    let mut store = vec![FREE; 9];
+    c.same("scroll", place_at(&window, &mut store, 0, point(0.0, 1312.5)), Ok(()));
+    c.same("follow a link", navigate(&mut window, 0), Ok(1));
+    c.same("scroll there", place_at(&window, &mut store, 1, point(0.0, 64.0)), Ok(()));
+    c.same("the place of a document that is not shown", place(&window, &store, 0), stands(0.0, 1312.5));
+    c.same("go back", go(&mut window, -1), Ok(vec![0, 1, 0, 1]));
+    c.same("the line is there again", place(&window, &store, 0), stands(0.0, 1312.5));
+    c.same("follow another", navigate(&mut window, 0), Ok(2));
+    c.same("1 is gone", place(&window, &store, 1), no(4));
+    c.same("2 finds room after freeing", place_itself(&window, &mut store, 2), Ok(()));
+    c.same("in the entry of 1", store, [&entry(0, 1, 0.0, 1312.5)[..], &entry(2, 0, 0.0, 64.0), &[FREE]].concat());
+}
+
+/// L5: "each coordinate times the zoom, rounded once"; "11 for a given coordinate, zoom or product that is NaN or infinite".
+fn zoom_examples(c: &mut Checks) {
+    let x = record_x();
+    let store = [entry(4, 1, 1312.5, -0.0), entry(1, 1, f64::MAX, f64::MIN_POSITIVE), entry(0, 1, 0.1, 3.0), entry(3, 0, f64::NAN, 0.0)].concat();
+    let at = |document: u32, zoom: f64| place_at_zoom(&x, &store, document, zoom.into());
+    c.same("a zoom", at(4, 1.25), stands(1640.625, -0.0));
+    c.same("the sign of zero", at(4, -2.0), stands(-2625.0, 0.0));
+    c.same("a zoom of nothing", at(4, 0.0), stands(0.0, -0.0));
+    c.same("0.1 three times is not 0.3", at(0, 3.0), stands(0.30000000000000004, 9.0));
+    c.same("a subnormal product", at(1, 0.5), stands(f64::MAX / 2.0, f64::MIN_POSITIVE / 2.0));
+    c.same("a product that is infinite", at(1, 1.0000000000000002), no(11));
+    for zoom in [f64::NAN, f64::INFINITY, f64::NEG_INFINITY] {
+        c.same("the zoom", at(4, zoom), no(11));
+        c.same("the zoom where the page places itself", at(3, zoom), no(11));
+        c.same("the zoom of a document without an entry", at(5, zoom), no(11));
+        c.same("4 before 11", at(9, zoom), no(4));
+    }
+    c.same("itself at a zoom", at(3, 2.0), Ok(Place::Itself));
+    let least = f64::from_bits(1);
+    for (name, a, b, wanted) in [
+        ("half of the least rounds to the even zero", least, 0.5, 0.0),
+        ("more than half of it is the least", least, 0.5000000000000001, least),
+        ("three halves of it round to the even two", f64::from_bits(3), 0.5, f64::from_bits(2)),
+        ("rounded up to the least normal", f64::MIN_POSITIVE, 1.0 - f64::EPSILON / 2.0, f64::MIN_POSITIVE),
+        ("half a last place above an even one", 4503599627370499.0, 3.0, 13510798882111496.0),
+        ("half a last place above an odd one", 4503599627370497.0, 3.0, 13510798882111492.0),
+        ("the largest", f64::MAX, -1.0, f64::MIN),
+        ("beyond it", f64::MAX, 2.0, f64::INFINITY),
+        ("far below the least", least, -least, -0.0),
+    ] {
+        c.same(name, product(a.into(), b.into()), wanted.into());
+    }
 }
 
 fn saved_examples(c: &mut Checks) {

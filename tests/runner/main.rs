@@ -1,15 +1,20 @@
 //! runner calls [--seed S] [--calls N] DRIVER [ARGUMENT..]: random calls through the driver, compared with the reference.
 //! runner scripts [--seed S] [--scripts N] COMMAND [ARGUMENT..]: random scripts through a script program, compared likewise.
+//! runner products [--seed S] [--calls N]: the reference's products of doubles, compared with the machine's own.
 mod compare;
+mod doubles;
 mod maker;
 mod random;
 mod records;
 mod request;
 mod saves;
 mod scripts;
+mod stores;
 mod table;
 
-const USAGE: &str = "usage: runner calls [--seed S] [--calls N] DRIVER [ARGUMENT..]\n       runner scripts [--seed S] [--scripts N] COMMAND [ARGUMENT..]";
+const USAGE: &str = "usage: runner calls [--seed S] [--calls N] DRIVER [ARGUMENT..]
+       runner scripts [--seed S] [--scripts N] COMMAND [ARGUMENT..]
+       runner products [--seed S] [--calls N]";
 
 fn fail(why: &str) -> ! {
     eprintln!("{why}\n{USAGE}");
@@ -32,12 +37,13 @@ fn main() {
         }
         arguments.drain(..2);
     }
-    if arguments.is_empty() {
-        fail("no command is given");
+    if arguments.is_empty() != (mode == "products") {
+        fail("a command is given, or is missing");
     }
     let passed = match mode.as_str() {
         "calls" => compare::run(seed, count.unwrap_or(300_000), &arguments),
         "scripts" => scripts::run(seed, count.unwrap_or(60), &arguments),
+        "products" => doubles::run(seed, count.unwrap_or(5_000_000)),
         _ => fail("no such mode"),
     };
     std::process::exit(!passed as i32);

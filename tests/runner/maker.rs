@@ -1,7 +1,7 @@
 //! Makes the calls: which one, on which record, with which numbers and buffers.
 use crate::random::Random;
 use crate::request::{Call, Reply, Request, CALLS};
-use crate::{records, saves};
+use crate::{doubles, records, saves, stores};
 use reference::record::{capacity, NONE};
 use reference::sound::is_sound;
 
@@ -123,6 +123,11 @@ impl Maker {
                 request.bytes = random.bytes(length);
             }
             Call::Stretch => stretch(random, &mut request),
+            Call::PlaceItself | Call::PlaceAt | Call::Place | Call::PlaceAtZoom => {
+                request.number = number(random, &request.words, 0, records::visible_document);
+                request.places = stores::store(random, &request.words, request.number);
+                request.given = stores::given(random, &request.places, request.number);
+            }
             Call::Load => {
                 request.bytes = self.load_bytes();
                 let random = &mut self.random;
@@ -166,7 +171,9 @@ impl Maker {
 fn blank(random: &mut Random, call: Call, words: Vec<u32>) -> Request {
     let guard = random.word();
     let outs = [random.word(), random.word(), random.word()];
-    Request { call, number: 0, lie: random.below(3) as u32, guard, outs, words, first: vec![], second: vec![], bytes: vec![] }
+    let doubles = [doubles::any(random), doubles::any(random)];
+    let lie = random.below(3) as u32;
+    Request { call, number: 0, lie, guard, outs, given: [0; 2], doubles, words, first: vec![], second: vec![], places: vec![], bytes: vec![] }
 }
 
 /// How much room the answer of this call wants; 2 where the call is refused whatever the room.
@@ -248,6 +255,7 @@ fn plain_calls(random: &mut Random) -> Vec<Request> {
                 let mut request = blank(random, call, words);
                 request.first = random.words(8);
                 request.second = random.words(8);
+                request.places = stores::store(random, &request.words, 0);
                 request.bytes = if call == Call::Load { saves::long_frame(random, 1 + length / 8) } else { random.bytes(40) };
                 requests.push(request);
             }

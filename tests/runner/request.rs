@@ -1,6 +1,8 @@
 //! One call with everything it is lent: as the driver is asked for it, and as the reference answers it.
 use reference::calls::{self, Answer};
+use reference::doubles::Double;
 use reference::history::History;
+use reference::places::{self, Place};
 use reference::record::{rows, NONE};
 use std::io::{self, Read};
 
@@ -18,12 +20,16 @@ pub enum Call {
     Outline,
     Save,
     Load,
+    PlaceItself,
+    PlaceAt,
+    Place,
+    PlaceAtZoom,
 }
 
 /// In the order of the driver's numbers.
-pub const CALLS: [Call; 12] = [
+pub const CALLS: [Call; 16] = [
     Call::Fresh, Call::Open, Call::Navigate, Call::Traverse, Call::Drop, Call::Position, Call::Visible, Call::Lists, Call::Stretch, Call::Outline,
-    Call::Save, Call::Load,
+    Call::Save, Call::Load, Call::PlaceItself, Call::PlaceAt, Call::Place, Call::PlaceAtZoom,
 ];
 
 impl Call {
@@ -35,9 +41,15 @@ impl Call {
             _ => None,
         }
     }
+
+    /// Whether it is lent a store of scroll places.
+    pub fn has_store(self) -> bool {
+        matches!(self, Call::PlaceItself | Call::PlaceAt | Call::Place | Call::PlaceAtZoom)
+    }
 }
 
-/// `first` and `second` are change rows, the two lists, or pairs; `number` is a document, a frame or δ.
+/// `first` and `second` are change rows, the two lists, or pairs; `places` is a store; `number` is a document, a frame or δ. Doubles go by their bits:
+/// `given` is a point, or a zoom and nothing, and `doubles` is what the out doubles held.
 #[derive(Clone)]
 pub struct Request {
     pub call: Call,
@@ -45,9 +57,12 @@ pub struct Request {
     pub lie: u32,
     pub guard: u32,
     pub outs: [u32; 3],
+    pub given: [u64; 2],
+    pub doubles: [u64; 2],
     pub words: Vec<u32>,
     pub first: Vec<u32>,
     pub second: Vec<u32>,
+    pub places: Vec<u64>,
     pub bytes: Vec<u8>,
 }
 
@@ -55,10 +70,12 @@ pub struct Request {
 pub struct Reply {
     pub refusal: u32,
     pub outs: [u32; 3],
+    pub doubles: [u64; 2],
     pub guards: u32,
     pub words: Vec<u32>,
     pub first: Vec<u32>,
     pub second: Vec<u32>,
+    pub places: Vec<u64>,
     pub bytes: Vec<u8>,
 }
 
@@ -69,9 +86,10 @@ impl Request {
     }
 
     pub fn encode(&self, to: &mut Vec<u8>) {
-        let counts = [self.words.len(), self.first.len(), self.second.len(), self.bytes.len()].map(|count| count as u32);
-        let head = [[self.call as u32, self.number, self.lie, self.guard].as_slice(), &self.outs, &counts].concat();
-        for word in head.iter().chain(&self.words).chain(&self.first).chain(&self.second) {
+        let counts = [self.words.len(), self.first.len(), self.second.len(), self.places.len(), self.bytes.len()].map(|count| count as u32);
+        let doubles = halves(&[self.given, self.doubles].concat());
+        let head = [[self.call as u32, self.number, self.lie, self.guard].as_slice(), &self.outs, &counts, &doubles].concat();
+        for word in head.iter().chain(&self.words).chain(&self.first).chain(&self.second).chain(&halves(&self.places)) {
             to.extend(word.to_le_bytes());
         }
         to.extend(&self.bytes);
@@ -83,10 +101,12 @@ impl Request {
         let mut reply = Reply {
             refusal: 0,
             outs: self.outs,
+            doubles: self.doubles,
             guards: 0,
             words: self.words.clone(),
             first: self.first.clone(),
             second: self.second.clone(),
+            places: self.places.clone(),
             bytes: self.bytes.clone(),
         };
         match self.answer(&mut reply) {
@@ -114,7 +134,8 @@ impl Request {
 
     /// The values of an accepted call, out word by out word.
     fn answer(&self, lent: &mut Reply) -> Answer<Vec<u32>> {
-        let Reply { words, first, second, bytes, .. } = lent;
+        let Reply { words, first, second, places, bytes, doubles, .. } = lent;
+        let given = self.given.map(Double);
         Ok(match self.call {
             Call::Fresh => calls::fresh(words).map(|()| vec![])?,
             Call::Open => calls::open(words, self.number).map(|(document, frame)| vec![document, frame])?,
@@ -128,6 +149,10 @@ impl Request {
             Call::Outline => vec![calls::outline(words, first)?],
             Call::Save => vec![calls::save(words, bytes)?],
             Call::Load => vec![calls::load(words, bytes)?],
+            Call::PlaceItself => places::place_itself(words, places, self.number).map(|()| vec![])?,
+            Call::PlaceAt => places::place_at(words, places, self.number, given).map(|()| vec![])?,
+            Call::Place => vec![told(places::place(words, places, self.number)?, doubles)],
+            Call::PlaceAtZoom => vec![told(places::place_at_zoom(words, places, self.number, given[0])?, doubles)],
         })
     }
 
@@ -135,7 +160,8 @@ impl Request {
     pub fn print(&self) {
         println!("  call {:?}, number {} (signed {}), runs lie {}, guard {:#010x}", self.call, self.number, self.number as i32, self.lie, self.guard);
         println!("  out words before {:?}", self.outs);
-        print_runs(&self.words, &self.first, &self.second, &self.bytes);
+        println!("  doubles given {:x?}, out doubles before {:x?}", self.given, self.doubles);
+        print_runs(&self.words, &self.first, &self.second, &self.places, &self.bytes);
         if self.words.len() >= 7 {
             println!("  clauses broken in the record: {:?}", reference::sound::broken(&self.words));
         }
@@ -144,27 +170,60 @@ impl Request {
 
 impl Reply {
     pub fn read(from: &mut impl Read, request: &Request) -> io::Result<Reply> {
-        let head = read_words(from, 5)?;
+        let head = read_words(from, 9)?;
         let words = read_words(from, request.words.len())?;
         let first = read_words(from, request.first.len())?;
         let second = read_words(from, request.second.len())?;
+        let places = wholes(&read_words(from, 2 * request.places.len())?);
         let mut bytes = vec![0; request.bytes.len() + padding(request.bytes.len())];
         from.read_exact(&mut bytes)?;
         bytes.truncate(request.bytes.len());
-        Ok(Reply { refusal: head[0], outs: [head[1], head[2], head[3]], guards: head[4], words, first, second, bytes })
+        let doubles = wholes(&head[5..]);
+        Ok(Reply {
+            refusal: head[0],
+            outs: [head[1], head[2], head[3]],
+            doubles: [doubles[0], doubles[1]],
+            guards: head[4],
+            words,
+            first,
+            second,
+            places,
+            bytes,
+        })
     }
 
     pub fn print(&self) {
-        println!("  refusal {}, out words {:?}, guards {}", self.refusal, self.outs, self.guards);
-        print_runs(&self.words, &self.first, &self.second, &self.bytes);
+        println!("  refusal {}, out words {:?}, out doubles {:x?}, guards {}", self.refusal, self.outs, self.doubles, self.guards);
+        print_runs(&self.words, &self.first, &self.second, &self.places, &self.bytes);
     }
 }
 
-fn print_runs(words: &[u32], first: &[u32], second: &[u32], bytes: &[u8]) {
+fn print_runs(words: &[u32], first: &[u32], second: &[u32], places: &[u64], bytes: &[u8]) {
     println!("  words ({}) {words:?}", words.len());
     println!("  first run ({}) {first:?}", first.len());
     println!("  second run ({}) {second:?}", second.len());
+    println!("  places ({}) {places:x?}", places.len());
     println!("  bytes ({}) {bytes:?}", bytes.len());
+}
+
+/// The kind of a place; a point goes out through the doubles, which keep what they held where the page places itself.
+fn told(place: Place, doubles: &mut [u64; 2]) -> u32 {
+    match place {
+        Place::Itself => 0,
+        Place::Point(x, y) => {
+            *doubles = [x.0, y.0];
+            1
+        }
+    }
+}
+
+/// Words of 64 bits as words of 32, the lower first, and back.
+fn halves(wholes: &[u64]) -> Vec<u32> {
+    wholes.iter().flat_map(|whole| [*whole as u32, (whole >> 32) as u32]).collect()
+}
+
+fn wholes(halves: &[u32]) -> Vec<u64> {
+    halves.chunks(2).map(|two| two[0] as u64 | (two[1] as u64) << 32).collect()
 }
 
 fn padding(byte_count: usize) -> usize {

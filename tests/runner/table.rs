@@ -1,11 +1,12 @@
-//! The table of document 01, "Nine ways to say no", with document 02's refusal 10, and a count of what occurred of it.
+//! The table of document 01, "Nine ways to say no", with document 02's refusals, and a count of what occurred of it.
 use crate::request::{Call, Request, CALLS};
+use crate::stores;
 use reference::sound::broken;
 use std::collections::BTreeMap;
 use std::ops::RangeInclusive;
 
 /// Acceptance, and the numbers of the refusals.
-const NUMBERS: RangeInclusive<u32> = 0..=10;
+const NUMBERS: RangeInclusive<u32> = 0..=15;
 
 /// Whether the table lets this call give this refusal; 0 stands for acceptance.
 pub fn allowed(call: Call, refusal: u32) -> bool {
@@ -15,19 +16,22 @@ pub fn allowed(call: Call, refusal: u32) -> bool {
         1 => call != Stretch,
         2 => !matches!(call, Fresh | Load | Stretch),
         3 => call == Load,
-        4 => matches!(call, Open | Navigate | Drop | Visible),
+        4 => matches!(call, Open | Navigate | Drop | Visible) || call.has_store(),
         5 => matches!(call, Open | Navigate | Drop),
         6 => matches!(call, Traverse | Stretch),
         7 => matches!(call, Open | Navigate | Load),
         8 => matches!(call, Open | Navigate),
         9 => matches!(call, Traverse | Lists | Outline | Save),
         10 => call == Drop,
+        11 => matches!(call, PlaceAt | PlaceAtZoom),
+        12 => matches!(call, PlaceItself | PlaceAt),
+        15 => call.has_store(),
         _ => false,
     }
 }
 
 /// Who hides a document, with or without another above that is not shown either.
-const HIDERS: [&str; 4] = ["itself", "itself before another", "one above", "one above before another"];
+const HIDERS: [&str; 4] = ["hidden by itself", "hidden by itself before another", "hidden by one above", "hidden by one above before another"];
 
 /// The one of HIDERS that a request has, by how far up those stand that are not shown; none where the document is visible.
 fn hider(not_shown: &[usize]) -> Option<&'static str> {
@@ -35,9 +39,9 @@ fn hider(not_shown: &[usize]) -> Option<&'static str> {
     Some(HIDERS[2 * (nearest > 0) as usize + (not_shown.len() > 1) as usize])
 }
 
-/// Whether a document that hides is among what this call may answer.
-fn tells_hider(call: Call) -> bool {
-    call == Call::Visible || allowed(call, 5)
+/// The ways that a call must have come to its answers: who hides a document, where it tells that, or what the store holds.
+fn ways_of(call: Call) -> Vec<&'static str> {
+    if call == Call::Visible || allowed(call, 5) { HIDERS.to_vec() } else { stores::ways_of(call) }
 }
 
 #[derive(Default)]
@@ -45,7 +49,7 @@ pub struct Seen {
     pairs: BTreeMap<(Call, u32), u64>,
     structs: BTreeMap<u32, u64>,
     clauses: BTreeMap<u8, u64>,
-    hiders: BTreeMap<(Call, &'static str), u64>,
+    ways: BTreeMap<(Call, &'static str), u64>,
     differing: BTreeMap<Call, u64>,
 }
 
@@ -62,11 +66,9 @@ impl Seen {
                 *self.clauses.entry(clause).or_default() += 1;
             }
         }
-        if refusal == 5 || (call == Call::Visible && refusal == 0) {
-            if let Some(hider) = hider(&request.not_shown()) {
-                *self.hiders.entry((call, hider)).or_default() += 1;
-            }
-        }
+        let hider = if refusal == 5 || (call == Call::Visible && refusal == 0) { hider(&request.not_shown()) } else { None };
+        let ways = if call.has_store() { stores::ways(request, refusal) } else { vec![] };
+        hider.into_iter().chain(ways).for_each(|way| *self.ways.entry((call, way)).or_default() += 1);
     }
 
     pub fn note_difference(&mut self, call: Call) {
@@ -81,20 +83,20 @@ impl Seen {
         self.pairs.len()
     }
 
-    /// The pairs of the table, those of Traverse with change rows as structs, the clauses of soundness (each failing alone), and the ways to be hidden
-    /// that did not occur.
+    /// The pairs of the table, those of Traverse with change rows as structs, the clauses of soundness (each failing alone), and the ways
+    /// to an answer that did not occur.
     pub fn missing(&self) -> Vec<String> {
         let pairs = CALLS.iter().flat_map(|&call| NUMBERS.map(move |refusal| (call, refusal)));
         let pairs = pairs.filter(|&(call, refusal)| allowed(call, refusal) && !self.pairs.contains_key(&(call, refusal)));
         let structs = NUMBERS.filter(|&refusal| allowed(Call::Traverse, refusal) && !self.structs.contains_key(&refusal));
         let clauses = (1..=8).filter(|clause| !self.clauses.contains_key(clause));
-        let hiders = CALLS.iter().filter(|&&call| tells_hider(call)).flat_map(|&call| HIDERS.map(|hider| (call, hider)));
-        let hiders = hiders.filter(|pair| !self.hiders.contains_key(pair));
+        let ways = CALLS.iter().flat_map(|&call| ways_of(call).into_iter().map(move |way| (call, way)));
+        let ways = ways.filter(|pair| !self.ways.contains_key(pair));
         pairs
             .map(|(call, refusal)| format!("{call:?} giving {refusal}"))
             .chain(structs.map(|refusal| format!("Traverse with structs giving {refusal}")))
             .chain(clauses.map(|clause| format!("S{clause} failing alone")))
-            .chain(hiders.map(|(call, hider)| format!("{call:?} of a document that is hidden by {hider}")))
+            .chain(ways.map(|(call, way)| format!("{call:?}: {way}")))
             .collect()
     }
 
@@ -102,15 +104,15 @@ impl Seen {
         for call in CALLS {
             let counts = NUMBERS.filter_map(|refusal| self.pairs.get(&(call, refusal)).map(|count| format!("{refusal}: {count}")));
             let differing = self.differing.get(&call).map(|count| format!("  DIFFERENT: {count}")).unwrap_or_default();
-            println!("  {:10} {}{differing}", format!("{call:?}"), counts.collect::<Vec<_>>().join("  "));
+            println!("  {:11} {}{differing}", format!("{call:?}"), counts.collect::<Vec<_>>().join("  "));
         }
         let structs = self.structs.iter().map(|(refusal, count)| format!("{refusal}: {count}"));
-        println!("  {:10} {}", "structs", structs.collect::<Vec<_>>().join("  "));
+        println!("  {:11} {}", "structs", structs.collect::<Vec<_>>().join("  "));
         let clauses = self.clauses.iter().map(|(clause, count)| format!("S{clause}: {count}"));
-        println!("  {:10} {}", "alone", clauses.collect::<Vec<_>>().join("  "));
-        for call in CALLS.into_iter().filter(|&call| tells_hider(call)) {
-            let counts = HIDERS.iter().filter_map(|&hider| self.hiders.get(&(call, hider)).map(|count| format!("{hider}: {count}")));
-            println!("  {:10} hidden by {}", format!("{call:?}"), counts.collect::<Vec<_>>().join("  "));
+        println!("  {:11} {}", "alone", clauses.collect::<Vec<_>>().join("  "));
+        for call in CALLS.into_iter().filter(|&call| !ways_of(call).is_empty()) {
+            let counts = ways_of(call).into_iter().filter_map(|way| self.ways.get(&(call, way)).map(|count| format!("{way}: {count}")));
+            println!("  {:11} {}", format!("{call:?}"), counts.collect::<Vec<_>>().join("  "));
         }
     }
 }

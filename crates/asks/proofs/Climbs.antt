@@ -1,10 +1,10 @@
 -- The climb, by the ways that it goes. Assumes nothing.
 use Prim.Native.Nat.{ℕ, _+_, _/_, _%_, _≤_, _<_}
-use mathlib.Core.Bool.{Bool, true, false}
+use mathlib.Core.Bool.{Bool, true, false, not}
 use mathlib.Core.List.{List}
 use mathlib.Core.Path.{_≡_, refl, sym, ap, subst, _∙_}
 use native.Mathlib.Omega.{arith}
-use lib.Dec.{eqb}
+use lib.Dec.{eqb, ltb}
 use lib.ListN.{length, List·getD-eq-default}
 use borrow.Author.Tests.{eq-eqb, ne-eqb, eqb-true, lt-ltb, le-ltb}
 use Rattle.base.specs.declared.RowPlace.{RowPlace}
@@ -114,6 +114,9 @@ module _ (words : List ℕ) (n i : ℕ) (count : n ≡ length (readableRows word
 pub hiding-is : (rows : List Row) (i code : ℕ) (h : Hider) → Coded (climbAt rows i) code → h ≡ hiderBy (code % 8589934592) → h ≡ hiderAt rows i
 unfolding hiderAt
 hiding-is rows i code h c e = e ∙ means-is (climbAt rows i .hider) (code % 8589934592) (c .who)
+
+pub nobody-told : (code : ℕ) → not (ltb code 4294967296) ≡ isNobody (hiderBy code)
+nobody-told code = test (ltb code 4294967296) (λ t. rw t refl) (λ f. rw f refl)
 
 -- By who hides it.
 pub climb-by : (rows : List Row) (i : ℕ) (h : Hider) → h ≡ hiderAt rows i → isNobody h ≡ visibleAt rows i

@@ -12,7 +12,7 @@ ghost use mathlib.Core.Path.{_≡_};
 ghost use mathlib.Core.List.{[], _∷_};
 ghost use lib.ListN.{length};
 ghost use Prim.Native.Nat.{_-_, _/_, _%_, _≤_, _<_, max};
-ghost use Rattle.rules.specs.Steps.{climbAt, hiderAt, visibleAt};
+ghost use Rattle.rules.specs.Steps.{isNobody, climbAt, hiderAt, visibleAt};
 ghost use Rattle.rules.specs.Words.{rowsOf};
 ghost use Rattle.rules.specs.Asks.{ownList, stretched};
 ghost use Rattle.rules.specs.Calls.{Call, outcome};
@@ -106,6 +106,13 @@ fn told(code: u64) -> Hider
     Hider::Nobody
 }
 
+// Whether a climb ends with nobody.
+fn is_nobody(code: u64) -> bool
+    ensures { λ r. ⌜ r ≡ isNobody (hiderBy (code % 8589934592)) ⌝ }
+{
+    !(code % LINK < NOBODY)
+}
+
 // How many links a climb has followed.
 fn links(code: u64) -> usize
     ensures { λ r. ⌜ r ≡ code / 8589934592 ⌝ }
@@ -124,10 +131,7 @@ pub fn hiding(words: &[u32], at: RowPlace) -> Hider
 pub fn climb(words: &[u32], at: RowPlace) -> bool
     ensures { λ r. ⌜ r ≡ visibleAt (readableRows (now (words .entry))) (at .0) ⌝ }
 {
-    match hiding(words, at) {
-        Hider::Nobody => true,
-        Hider::Document(_) => false,
-    }
+    is_nobody(climbed(words, at))
 }
 
 // Whether a document is there, whether it is visible, who hides it, and how far the climb went.

@@ -36,6 +36,12 @@ pub enum Refusal {
     ShortBuffer,
     // the root frame cannot be taken out
     RootFrame,
+    // a given coordinate, a zoom or a product is NaN or infinite
+    NotFinite,
+    // no entry for the place, even after freeing
+    NoEntry,
+    // the entries of the store of places that are not free hold a document twice, a kind above 1 or a point that is not finite
+    BadPlaces,
 }
 
 // The paper's number of a refusal.
@@ -53,6 +59,9 @@ pub fn refusal_number(refusal: Refusal) -> u32
         Refusal::UsedUp => 8,
         Refusal::ShortBuffer => 9,
         Refusal::RootFrame => 10,
+        Refusal::NotFinite => 11,
+        Refusal::NoEntry => 12,
+        Refusal::BadPlaces => 15,
     }
 }
 

@@ -1,28 +1,32 @@
 -- Demand 1's refusals. Assumes nothing.
 use Prim.Native.Nat.{ℕ, suc, _≤_, _<_}
 use mathlib.Core.List.{List, [], _∷_}
-use mathlib.Core.Logic.{_↔_, _≢_, inl, inr, ⊎-elim}
-use mathlib.Core.Bool.{Bool, true, false, not, _&&_, _||_, So, false≢true, and-eq-true-iff}
+use mathlib.Core.Logic.{_↔_, _≢_, _⊎_, inl, inr, ⊎-elim}
+use mathlib.Core.Bool.{Bool, true, false, not, _&&_, _||_, So, cond, false≢true, and-eq-true-iff}
 use mathlib.Core.Path.{_≡_, refl, sym, ap, subst, _∙_}
 use native.Mathlib.Omega.{arith}
-use lib.Dec.{eqb}
+use lib.Dec.{eqb, leb}
+use lib.Ieee.{Float, nan, inf, fin}
 use lib.IntN.{ℤ, pos, negsuc, _+ℤ_}
 use lib.ListN.{length, replicate, length-replicate}
-use borrow.Author.Tests.{not-true, not-false, lt-ltb, eqb-true, eqb-false}
+use borrow.Author.Tests.{not-true, not-false, lt-ltb, eq-eqb, ne-eqb, eqb-true, eqb-false, leb-true, leb-false}
 use Rattle.rules.specs.Rows.{none, parentAt, inRecord, isFrame}
 use Rattle.rules.specs.Steps.{position, steps, visible}
 use Rattle.rules.specs.Words.{capacity, rowsOf, written}
 use Rattle.rules.specs.Asks.{stretched}
 use Rattle.rules.specs.Saved.{parentOf, saved, loaded, fromSave?}
-use Rattle.rules.specs.Calls.{Call, Answer, Rung, _when_, _naming_, short, unsound, absent, hidden, hider, outside, noFrame, rootFrame, refusals, outcome, Given}
-use Rattle.laws.proofs.Tests.{clash, off, or-cases}
+use Rattle.rules.specs.Below.{someBelow}
+use Rattle.rules.specs.Places.{Place, finite, finitePlace, scaled, entries, documentIn, kindIn, placeIn, isOf, sane, fineAt, fine?, placeOf, freed}
+use Rattle.rules.specs.Calls.{Call, Answer, Rung, _when_, _naming_, short, unsound, absent, hidden, hider, outside, noFrame, rootFrame, badPlaces, notFinite, overZoomed, noEntry, refusals, outcome, Given}
+use Rattle.laws.proofs.Tests.{test, clash, off, or-left, or-cases, and-both, some-out, all-fails-at}
 use Rattle.laws.proofs.Reflect.{Ref, ref-lt, ref-le, ref-eq, ref-or, ref-map, record-is, frame-is, sound-is}
 use Rattle.laws.proofs.Tree.{parent-of}
 use Rattle.laws.proofs.Words.{table-written, written-sound}
 use Rattle.laws.proofs.Loads.{in-room, from-save-is, from-save-in}
+use Rattle.laws.proofs.Stores.{fine-out, freed-entries, freed-document, spot-past, past-spot}
 use Rattle.laws.proofs.Calls.{refused-when, refused-keeps}
 use Rattle.demands.proofs.Nearest.{hider-is, is-hider}
-use Rattle.demands.specs.Refuses.{Short, Unsound, SavedBySome, NotSaved, StandsAt, Absent, Hidden, Outside, RowOf, NoFrame, RootFrame, ParentHidden, Nearest, ParentNearest, Line, _if_, _carrying_, lines, numbers, among, First, HoldsIn, Applies, Demand1, SmallestFirst}
+use Rattle.demands.specs.Refuses.{Short, Unsound, SavedBySome, NotSaved, StandsAt, Absent, Hidden, Outside, RowOf, NoFrame, RootFrame, ParentHidden, Nearest, ParentNearest, Endless, NotFinite, BadPlaces, NoEntry, Line, _if_, _carrying_, lines, numbers, among, First, HoldsIn, Applies, Demand1, paper, SmallestFirst}
 
 -- A rung and a line say the same: the number, when, and what it carries then.
 record Agree (r : Rung) (l : Line) : Type 0 where
@@ -201,6 +205,74 @@ saved-is bytes = (
 not-saved-is : (bytes : List ℕ) → Ref (not (fromSave? bytes)) (NotSaved bytes)
 not-saved-is bytes = ref-not (saved-is bytes)
 
+-- SCROLL PLACES
+
+either : (a b : Bool) {P Q : Type 0} → Ref (not a) P → Ref (not b) Q → Ref (not (a && b)) (P ⊎ Q)
+either true b r q = (λ h. inr (q .0 h), ⊎-elim (λ p. absurd (false≢true (r .1 p))) (λ p. q .1 p))
+either false b r q = (λ h. inl (r .0 refl), λ h. refl)
+
+endless-is : (x : Float) → Ref (not (finite x)) (Endless x)
+unfolding finite
+endless-is nan = (λ e. inl refl, λ e. refl)
+endless-is (inf s) = (λ e. inr (s, refl), λ e. refl)
+endless-is (fin s m e) = (λ h. absurd (false≢true h), λ h. ⊎-elim (λ q. ap (λ x. not (finite x)) q) (λ q. ap (λ x. not (finite x)) (q .1)) h)
+
+not-finite-is : (p : Place) → Ref (notFinite p) (NotFinite p)
+not-finite-is Place.itself = (λ e. false≢true e, λ h. absurd h)
+not-finite-is (Place.at x y) = either (finite x) (finite y) (endless-is x) (endless-is y)
+
+over-zoomed-is : (zoom : Float) (p : Place) → Ref (overZoomed zoom p) (Endless zoom ⊎ NotFinite (scaled zoom p))
+over-zoomed-is zoom p = either (finite zoom) (finitePlace (scaled zoom p)) (endless-is zoom) (not-finite-is (scaled zoom p))
+
+module _ (places : List ℕ) where
+  -- An entry that fails: its document stands before, or its kind is above 1, or its point is not finite.
+  fails-at : (i : ℕ) → i < entries places → fineAt places i ≡ false → BadPlaces places
+  fails-at i l f =
+      let held : documentIn places i ≡ none → ⊥ = λ z. clash (or-left _ (eq-eqb (documentIn places i) none z)) f in
+      let h : (sane places i && not (someBelow i (isOf places (documentIn places i)))) ≡ false = rw (ne-eqb (documentIn places i) none held) at f in
+      test (leb (kindIn places i) 1)
+      (λ a. test (finitePlace (placeIn places i))
+      (λ b.
+      let k = some-out (isOf places (documentIn places i)) i (not-false _ (rw (a, b) at h)) in
+      let same : documentIn places (k .0) ≡ documentIn places i = eqb-true _ _ (k .2) in
+      inl (k .0, i, k .1, (omega (arith, k .1), λ z. held (sym same ∙ z)), (l, held), same))
+      (λ b. inr (inr (i, (l, held), not-finite-is (placeIn places i) .0 (ap not b)))))
+      (λ a. inr (inl (i, (l, held), leb-false _ _ a)))
+
+  bad-is : Ref (badPlaces places) (BadPlaces places)
+  unfolding fine?
+  bad-is = (
+    λ t. let k = all-fails-at (fineAt places) (entries places) (not-true _ t) in fails-at (k .0) (k .1) (k .2),
+    λ h.
+        ap not (off (fine? places) (λ t.
+        let fine = fine-out places t in
+        ⊎-elim
+        (λ (i, j, l, a, b, e). let z = fine .once i j (a .0) (b .0) (a .1) e in omega arith)
+        (⊎-elim
+        (λ (i, a, l). let z : kindIn places i ≤ 1 = leb-true _ _ (and-both _ (finitePlace (placeIn places i)) (fine .sound i (a .0) (a .1)) .0) in omega arith)
+        (λ (i, a, n). clash (and-both (leb (kindIn places i) 1) _ (fine .sound i (a .0) (a .1)) .1) (not-true _ (not-finite-is (placeIn places i) .1 n))))
+        h)),
+  )
+
+-- After freeing an entry is neither the document's nor free exactly where it is of another one in the record.
+no-entry-is : (words places : List ℕ) (d : ℕ) → Ref (noEntry words places d) (NoEntry words places d)
+no-entry-is words places d =
+    let rows = rowsOf words in
+    let c = freed-entries rows places in
+    let document : (i : ℕ) → i < entries places → documentIn (freed rows places) i ≡ cond (not (inRecord rows (documentIn places i))) none (documentIn places i) = freed-document rows places in
+    ref-map
+    (λ l i m.
+    let p = spot-past (freed rows places) d l i (omega arith) in
+    test (inRecord rows (documentIn places i))
+    (λ t. let q = document i m ∙ rw t refl in (λ e. p .0 (q ∙ e), λ e. p .1 (q ∙ e), there words (documentIn places i) .0 t))
+    (λ f. absurd (p .1 (document i m ∙ rw f refl))))
+    (λ h. past-spot (freed rows places) d (λ i m.
+    let p = h i (omega arith) in
+    let t = there words (documentIn places i) .1 (p .2) in
+    let q = document i (omega arith) ∙ rw t refl in
+    (λ e. p .0 (sym q ∙ e), λ e. p .1 (sym q ∙ e))))
+    (ref-le (entries (freed rows places)) _)
+
 -- EACH CALL
 
 listed : (c : Call) → So (listed? (refusals c))
@@ -218,6 +290,9 @@ listed (Call.StretchCount takens upcomings δ) = refl
 listed (Call.Outline words room) = refl
 listed (Call.Save words room) = refl
 listed (Call.Load words bytes) = refl
+listed (Call.SetPlace words places d place) = refl
+listed (Call.AskPlace words places d) = refl
+listed (Call.AskAtZoom words places d zoom) = refl
 
 -- Refusals 1 and 2, and then the rest of a sound record.
 on-record : {rest : Type 0} (words : List ℕ) → (unsound words ≡ false → rest) →
@@ -244,6 +319,11 @@ match (Call.StretchCount takens upcomings δ) = (alone (ref-lt _ _), λ f. tt)
 match (Call.Outline words room) = on-record words (λ s. (alone (ref-lt _ _), λ f. tt))
 match (Call.Save words room) = on-record words (λ s. (alone (ref-lt _ _), λ f. tt))
 match (Call.Load words bytes) = (alone (short-is words), λ f. (alone (not-saved-is bytes), λ f. (alone (ref-lt _ _), λ f. tt)))
+match (Call.SetPlace words places d place) =
+    on-record words (λ s. (alone (bad-is places), λ f. (alone (absent-is words d), λ f. (alone (not-finite-is place), λ f. (alone (no-entry-is words places d), λ f. tt)))))
+match (Call.AskPlace words places d) = on-record words (λ s. (alone (bad-is places), λ f. (alone (absent-is words d), λ f. tt)))
+match (Call.AskAtZoom words places d zoom) =
+    on-record words (λ s. (alone (bad-is places), λ f. (alone (absent-is words d), λ f. (alone (over-zoomed-is zoom (placeOf places d)), λ f. tt))))
 
 -- "It refuses only by the nine refusals of document 01, exactly when that document says, and then each lent word and byte reads as before."
 pub demand1 : Demand1
@@ -307,24 +387,27 @@ module _ (k : ℕ) where
       (s .0, inr (n, s .1)))
       h
 
-rise : (c : Call) → ((words : List ℕ) (frame : ℕ) → c ≡ Call.Drop words frame → ⊥) → Rising 1 (lines c)
+rise : (c : Call) → paper c ≡ 1 → Rising 1 (lines c)
 unfolding Rising lines
-rise (Call.Fresh words) other = (omega arith, tt)
-rise (Call.Open words parent) other = (omega arith, (omega arith, (omega arith, (omega arith, (omega arith, (omega arith, tt))))))
-rise (Call.Navigate words from) other = (omega arith, (omega arith, (omega arith, (omega arith, (omega arith, (omega arith, tt))))))
-rise (Call.Traverse words δ room) other = (omega arith, (omega arith, (omega arith, (omega arith, tt))))
-rise (Call.Drop words frame) other = absurd (other words frame refl)
-rise (Call.Position words) other = (omega arith, (omega arith, tt))
-rise (Call.Visible words d) other = (omega arith, (omega arith, (omega arith, tt)))
-rise (Call.Lists words takens upcomings) other = (omega arith, (omega arith, (omega arith, tt)))
-rise (Call.Stretch takens upcomings δ) other = tt
-rise (Call.StretchCount takens upcomings δ) other = (omega arith, tt)
-rise (Call.Outline words room) other = (omega arith, (omega arith, (omega arith, tt)))
-rise (Call.Save words room) other = (omega arith, (omega arith, (omega arith, tt)))
-rise (Call.Load words bytes) other = (omega arith, (omega arith, (omega arith, tt)))
+rise (Call.Fresh words) first = (omega arith, tt)
+rise (Call.Open words parent) first = (omega arith, (omega arith, (omega arith, (omega arith, (omega arith, (omega arith, tt))))))
+rise (Call.Navigate words from) first = (omega arith, (omega arith, (omega arith, (omega arith, (omega arith, (omega arith, tt))))))
+rise (Call.Traverse words δ room) first = (omega arith, (omega arith, (omega arith, (omega arith, tt))))
+rise (Call.Drop words frame) first = absurd (omega arith)
+rise (Call.Position words) first = (omega arith, (omega arith, tt))
+rise (Call.Visible words d) first = (omega arith, (omega arith, (omega arith, tt)))
+rise (Call.Lists words takens upcomings) first = (omega arith, (omega arith, (omega arith, tt)))
+rise (Call.Stretch takens upcomings δ) first = tt
+rise (Call.StretchCount takens upcomings δ) first = (omega arith, tt)
+rise (Call.Outline words room) first = (omega arith, (omega arith, (omega arith, tt)))
+rise (Call.Save words room) first = (omega arith, (omega arith, (omega arith, tt)))
+rise (Call.Load words bytes) first = (omega arith, (omega arith, (omega arith, tt)))
+rise (Call.SetPlace words places d place) first = absurd (omega arith)
+rise (Call.AskPlace words places d) first = absurd (omega arith)
+rise (Call.AskAtZoom words places d zoom) first = absurd (omega arith)
 
 -- "Where several apply, the smallest number is given": so it is of every call of document 01.
 pub smallest-first : SmallestFirst
-smallest-first c other k =
-    let o = rise c other in
+smallest-first c first k =
+    let o = rise c first in
     (λ h. (first-holds k (h .0) (lines c) (h .1), first-smallest k 1 (h .0) (lines c) o (h .1)), λ h. smallest-of k 1 (refusals c) (lines c) (match c) o (h .0) (h .1))

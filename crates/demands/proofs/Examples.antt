@@ -1,9 +1,9 @@
--- P1 to P12 and the small examples of document 01, and what Drop does. The tables stand beside the definitions, in `rules`, so that an edit of a definition is held
+-- P1 to P12 and the small examples of document 01, what Drop does, and scroll places. The tables stand beside the definitions, in `rules`, so that an edit of a definition is held
 -- against them; here they are said of the calls of the library. Assumes nothing.
 use mathlib.Core.List.{map}
 use mathlib.Core.Path.{_≡_}
 use Rattle.rules.specs.Calls.{outcome}
-use Rattle.rules.proofs.Examples.{seen, table, drops, smalls, examples-hold, drops-hold, smalls-hold}
+use Rattle.rules.proofs.Examples.{seen, table, drops, smalls, scrolls, examples-hold, drops-hold, smalls-hold, scrolls-hold}
 
 pub p1-to-p12 : map seen table ≡ map (λ c. c .expected) table
 p1-to-p12 = examples-hold
@@ -13,3 +13,6 @@ drop-examples = drops-hold
 
 pub small-examples : map (λ s. outcome (s .call)) smalls ≡ map (λ s. s .expected) smalls
 small-examples = smalls-hold
+
+pub place-examples : map (λ s. outcome (s .call)) scrolls ≡ map (λ s. s .expected) scrolls
+place-examples = scrolls-hold

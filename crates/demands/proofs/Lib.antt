@@ -1,6 +1,6 @@
--- What the customer buys, as theorems over the definitions of `rules`. The ends of the lines of thought: `p1-to-p12`, `drop-examples`, `standing`,
+-- What the customer buys, as theorems over the definitions of `rules`. The ends of the lines of thought: `p1-to-p12`, `drop-examples`, `place-examples`, `standing`,
 -- `past-spared`, `demand1` and `smallest-first`, `undo-each-other` and `demand2`, `noted`, `demand3` and `without-drops`, `hides-rightly` and
--- `refusal-five-carries`, `links-rightly`, `traverse-traverse`, and of the readings that look right `back-does-not-restore`, `back-restores-visible`,
+-- `refusal-five-carries`, `links-rightly`, `traverse-traverse`, `scrolls`, and of the readings that look right `back-does-not-restore`, `back-restores-visible`,
 -- `own-future-not-enough`, `visible-futures-not-enough`, `back-is-not-to-latest-past`, `back-is-not-from-latest-of-all`, `back-is-not-to-first`,
 -- `back-is-backward`, `taken-may-not-go`, `gone-not-as-noted`.
 pub mod Examples
@@ -28,3 +28,5 @@ pub mod Navigates
 pub mod Demand2
 pub mod Readings
 pub mod Return
+pub mod Rests
+pub mod Scrolls

@@ -183,3 +183,6 @@ past-spared (Call.Load words bytes) =
     let l : 7 ≤ length other = ltb-false _ _ (n .0) in
     let f : length (loaded bytes .rows) ≤ capacity other = ltb-false _ _ (n .1 .1 .0) in
     wrote-table words other h (loaded bytes) _ [] (omega arith) (omega arith))))
+past-spared (Call.SetPlace words places d place) = λ other h. guarded _≡_ (λ k vs. refl) words other h (λ s t c. (cc, λ n. cc))
+past-spared (Call.AskPlace words places d) = λ other h. guarded _≡_ (λ k vs. refl) words other h (λ s t c. (cc, λ n. cc))
+past-spared (Call.AskAtZoom words places d zoom) = λ other h. guarded _≡_ (λ k vs. refl) words other h (λ s t c. (cc, λ n. cc))

@@ -11,3 +11,4 @@ pub mod Follows
 pub mod Note
 pub mod Fundamental
 pub mod Readings
+pub mod Places

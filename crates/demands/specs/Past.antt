@@ -35,6 +35,9 @@ handed (Call.StretchCount takens upcomings δ) = Handed.without
 handed (Call.Outline words room) = Handed.toRead (λ w. Call.Outline w room) words
 handed (Call.Save words room) = Handed.toRead (λ w. Call.Save w room) words
 handed (Call.Load words bytes) = Handed.toWrite (λ w. Call.Load w bytes) words
+handed (Call.SetPlace words places d place) = Handed.toRead (λ w. Call.SetPlace w places d place) words
+handed (Call.AskPlace words places d) = Handed.toRead (λ w. Call.AskPlace w places d) words
+handed (Call.AskAtZoom words places d zoom) = Handed.toRead (λ w. Call.AskAtZoom w places d zoom) words
 
 -- The outcome of a call that writes, but for the words of the record past 3 + 4C.
 abbrev pub nearFirst : List (List ℕ) → List (List ℕ)

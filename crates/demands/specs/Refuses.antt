@@ -6,6 +6,7 @@ use mathlib.Core.Logic.{_↔_, _⊎_}
 use mathlib.Core.Bool.{Bool, false, _||_, So}
 use mathlib.Core.Path.{_≡_}
 use lib.Dec.{eqb}
+use lib.Ieee.{Float, nan, inf}
 use lib.IntN.{ℤ, pos, negsuc, _+ℤ_, natAbs}
 use lib.ListN.{length}
 use Rattle.rules.specs.Rows.{Row, none, docAt, frameAt, parentAt, isShown}
@@ -15,6 +16,7 @@ use Rattle.rules.specs.Words.{capacity, tableOf, rowsOf}
 use Rattle.rules.specs.Sound.{Sound}
 use Rattle.rules.specs.Asks.{takenList, upcomingList, ownList, outlineOf}
 use Rattle.rules.specs.Saved.{saved, loaded}
+use Rattle.rules.specs.Places.{Place, scaled, entries, documentIn, kindIn, placeIn, placeOf}
 use Rattle.rules.specs.Calls.{Call, Answer, lentTo, outcome}
 
 -- "1: record under 7 words"
@@ -92,6 +94,35 @@ RootFrame words f = (i : ℕ) × RowOf words f i × (parentAt (rowsOf words) i �
 abbrev pub ParentHidden : List ℕ → ℕ → Type 0
 ParentHidden words f = (i : ℕ) × RowOf words f i × (visible (rowsOf words) (parentAt (rowsOf words) i) ≡ false)
 
+-- "NaN or infinite": a double, and a coordinate of a point.
+abbrev pub Endless : Float → Type 0
+Endless x = (x ≡ nan) ⊎ ((negative : Bool) × (x ≡ inf negative))
+
+abbrev pub NotFinite : Place → Type 0
+NotFinite Place.itself = ⊥
+NotFinite (Place.at x y) = Endless x ⊎ Endless y
+
+-- Entry i of a store is not free.
+abbrev pub NotFree : List ℕ → ℕ → Type 0
+NotFree places i = (i < entries places) × (documentIn places i ≡ none → ⊥)
+
+-- "15 [..] for a store whose entries not free hold a document twice, a kind above 1 or a point not finite"
+abbrev pub Twice : List ℕ → Type 0
+Twice places = (i : ℕ) × (j : ℕ) × (i < j) × NotFree places i × NotFree places j × (documentIn places i ≡ documentIn places j)
+
+abbrev pub KindAbove : List ℕ → Type 0
+KindAbove places = (i : ℕ) × NotFree places i × (1 < kindIn places i)
+
+abbrev pub PointEndless : List ℕ → Type 0
+PointEndless places = (i : ℕ) × NotFree places i × NotFinite (placeIn places i)
+
+abbrev pub BadPlaces : List ℕ → Type 0
+BadPlaces places = Twice places ⊎ (KindAbove places ⊎ PointEndless places)
+
+-- "12 when a new entry would find no room even after freeing": each entry is of another document that is in the record.
+abbrev pub NoEntry : List ℕ → List ℕ → ℕ → Type 0
+NoEntry words places d = (i : ℕ) → i < entries places → (documentIn places i ≡ d → ⊥) × (documentIn places i ≡ none → ⊥) × ((j : ℕ) × StandsAt words (documentIn places i) j)
+
 -- "(for removal, that of the parent's climb)" (document 02, L4)
 abbrev pub ParentNearest : List ℕ → ℕ → ℕ → Type 0
 ParentNearest words f h = (i : ℕ) × RowOf words f i × Nearest (rowsOf words) (parentAt (rowsOf words) i) h
@@ -137,10 +168,16 @@ lines (Call.StretchCount takens upcomings δ) = 6 if TooFar takens upcomings δ 
 lines (Call.Outline words room) = 1 if Short words ∷ 2 if Unsound words ∷ 9 if TooShort room (outlineOf (tableOf words)) ∷ []
 lines (Call.Save words room) = 1 if Short words ∷ 2 if Unsound words ∷ 9 if TooShort room (saved (tableOf words)) ∷ []
 lines (Call.Load words bytes) = 1 if Short words ∷ 3 if NotSaved bytes ∷ 7 if (capacity words < length (loaded bytes .rows)) ∷ []
+lines (Call.SetPlace words places d place) =
+    1 if Short words ∷ 2 if Unsound words ∷ 15 if BadPlaces places ∷ 4 if Absent words d ∷ 11 if NotFinite place ∷ 12 if NoEntry words places d ∷ []
+lines (Call.AskPlace words places d) = 1 if Short words ∷ 2 if Unsound words ∷ 15 if BadPlaces places ∷ 4 if Absent words d ∷ []
+lines (Call.AskAtZoom words places d zoom) =
+    1 if Short words ∷ 2 if Unsound words ∷ 15 if BadPlaces places ∷ 4 if Absent words d
+    ∷ 11 if (Endless zoom ⊎ NotFinite (scaled zoom (placeOf places d))) ∷ []
 
 -- The numbers that the table has.
 abbrev pub numbers : List ℕ
-numbers = 1 ∷ 2 ∷ 3 ∷ 4 ∷ 5 ∷ 6 ∷ 7 ∷ 8 ∷ 9 ∷ 10 ∷ []
+numbers = 1 ∷ 2 ∷ 3 ∷ 4 ∷ 5 ∷ 6 ∷ 7 ∷ 8 ∷ 9 ∷ 10 ∷ 11 ∷ 12 ∷ 15 ∷ []
 
 -- k is one of these numbers.
 abbrev pub among : ℕ → List ℕ → Bool
@@ -173,8 +210,27 @@ HoldsIn k (l ∷ rest) = ((l .number ≡ k) × l .condition) ⊎ HoldsIn k rest
 abbrev pub Applies : ℕ → Call → Type 0
 Applies k c = HoldsIn k (lines c)
 
+-- The document that a call is of.
+abbrev pub paper : Call → ℕ
+paper (Call.Fresh words) = 1
+paper (Call.Open words parent) = 1
+paper (Call.Navigate words from) = 1
+paper (Call.Traverse words δ room) = 1
+paper (Call.Drop words frame) = 2
+paper (Call.Position words) = 1
+paper (Call.Visible words d) = 1
+paper (Call.Lists words takens upcomings) = 1
+paper (Call.Stretch takens upcomings δ) = 1
+paper (Call.StretchCount takens upcomings δ) = 1
+paper (Call.Outline words room) = 1
+paper (Call.Save words room) = 1
+paper (Call.Load words bytes) = 1
+paper (Call.SetPlace words places d place) = 2
+paper (Call.AskPlace words places d) = 2
+paper (Call.AskAtZoom words places d zoom) = 2
+
 -- "Where several apply, the smallest number is given": of every call of document 01 the first line that applies is the one with the smallest number.
 abbrev pub SmallestFirst : Type 0
 SmallestFirst =
-    (c : Call) → ((words : List ℕ) (frame : ℕ) → c ≡ Call.Drop words frame → ⊥) →
+    (c : Call) → paper c ≡ 1 →
     (k : ℕ) → ((vs : List ℕ) × First k vs (lines c)) ↔ (Applies k c × ((j : ℕ) → j < k → Applies j c → ⊥))

@@ -8,13 +8,17 @@ use Rattle.rules.specs.Calls.{Call, Answer, outcome}
 use Rattle.changes.specs.declared.ChangeRow.{ChangeRow}
 use Rattle.changes.specs.Changes.{plain}
 use Rattle.changes.proofs.Filling.{plain-same}
-use Rattle.determined.specs.Determined.{AtMostOne, OneResult, Determined}
-use Rattle.determined.proofs.Injective.{fresh-injective, opened-injective, navigated-injective, dropped-injective, traversed-injective, standing-injective, sight-injective, listed-injective, stretch-injective, outlined-injective, saving-injective, loading-injective, reply-injective, command-injective}
+use Rattle.determined.specs.Determined.{AtMostOne, OneResult, OnePlace, Determined}
+use Rattle.determined.proofs.Injective.{fresh-injective, opened-injective, navigated-injective, dropped-injective, traversed-injective, standing-injective, sight-injective, listed-injective, stretch-injective, outlined-injective, saving-injective, loading-injective, setting-injective, placed-same, reply-injective, command-injective}
 use Rattle.determined.proofs.Shifts.{shift-alike}
 
 -- No two results of a call have one answer: then its outcome tells the result, with the lent runs.
 alike : {A : Type 0} {is : A → Answer} → Injective is → (c : Call) → OneResult is c
 alike inj c x y e f = let g = sym e ∙ f in λ i. (inj (x .0) (y .0) (ap (λ o. o .answer) g) i, g i .lent)
+
+-- So it is of a place, by the bits of its coordinates.
+place-alike : (c : Call) → OnePlace c
+place-alike c x y e f = let g = sym (e .1) ∙ f .1 in λ i. (placed-same (x .0) (y .0) (e .0) (f .0) (ap (λ o. o .answer) g) i, g i .lent)
 
 -- Lent runs that are the same hold the same change rows.
 rows-alike : (words words' : List ℕ) (rows rows' : List ChangeRow) → words ∷ plain rows ∷ [] ≡ words' ∷ plain rows' ∷ [] → rows ≡ rows'
@@ -36,6 +40,9 @@ determined =
       outline = λ words room. alike outlined-injective (Call.Outline words room);
       save = λ words room. alike saving-injective (Call.Save words room);
       load = λ words bytes. alike loading-injective (Call.Load words bytes);
+      set-place = λ words places d place. alike setting-injective (Call.SetPlace words places d place);
+      place = λ words places d. place-alike (Call.AskPlace words places d);
+      place-at-zoom = λ words places d zoom. place-alike (Call.AskAtZoom words places d zoom);
       stretch = λ takens upcomings δ x y e f. e ∙ sym f;
       traverse-rows = λ words δ rows (r, words', rows') (q, words'', rows'') e f.
           let g = alike traversed-injective (Call.Traverse words δ (plain rows)) (r, words' ∷ plain rows' ∷ []) (q, words'' ∷ plain rows'' ∷ []) e f in
@@ -45,6 +52,7 @@ determined =
       turn = λ words changes line x y e f. let g = sym e ∙ f in λ i. (reply-injective (x .0) (y .0) (ap (λ z. z .said) g) i, g i .words, g i .changes);
       parse = λ line x y e f. command-injective x y (e ∙ sym f);
       host = λ c olds x y e f. let g = sym e ∙ f in λ i. (g i .number, g i .outs, g i .lent);
+      host-place = λ c olds x y e f. let g = sym e ∙ f in λ i. (g i .number, g i .outs, g i .lent);
       host-hiding = λ c olds old x y e f. let g = sym e ∙ f in λ i. (g i .seen .number, g i .seen .outs, g i .seen .lent, g i .hiding);
       host-rows = λ words δ rows olds (n, outs, words', rows') (m, outs', words'', rows'') e f.
           let g = sym e ∙ f in λ i. (g i .number, g i .outs, getD (g i .lent) 0 [], rows-alike words' words'' rows' rows'' (ap (λ z. z .lent) g) i);

@@ -2,12 +2,14 @@
 use Prim.Native.Nat.{ℕ}
 use mathlib.Core.Bool.{cond}
 use mathlib.Core.List.{List, [], _∷_}
-use mathlib.Core.Path.{_≡_, refl, ap}
+use mathlib.Core.Path.{_≡_, refl, ap, sym, _∙_}
 use mathlib.Mathlib.Logic.Function.Defs.{Injective, LeftInverse, LeftInverse·injective}
 use lib.Dec.{eqb}
+use lib.Ieee.{binary64, ofBits}
+use lib.Ieee.Bits.{ofBits-toBits}
 use lib.ListN.{getD}
 use Rattle.base.specs.declared.Refusal.{Refusal}
-use Rattle.base.specs.declared.Refusal.the-variants.{ShortRecord, Unsound, NotSaved, Absent, Hidden, Beyond, Full, UsedUp, ShortBuffer, RootFrame}
+use Rattle.base.specs.declared.Refusal.the-variants.{ShortRecord, Unsound, NotSaved, Absent, Hidden, Beyond, Full, UsedUp, ShortBuffer, RootFrame, NotFinite, NoEntry, BadPlaces}
 use Rattle.base.specs.Numbers.{numberOf, carriedBy}
 use Rattle.rules.specs.Calls.{Answer}
 use Rattle.moves.specs.declared.Freshened.the-variants as Freshens
@@ -30,17 +32,23 @@ use Rattle.saved.specs.declared.Saving.the-variants as Savings
 use Rattle.saved.specs.Answers.{savingIs}
 use Rattle.loads.specs.declared.Loading.the-variants as Loadings
 use Rattle.loads.specs.Answers.{loadingIs}
+use Rattle.points.specs.declared.Place.the-variants.{Itself, At}
+use Rattle.places.specs.declared.Placed.{Placed}
+use Rattle.places.specs.declared.Placed.the-variants as Placeds
+use Rattle.places.specs.declared.Setting.the-variants as Settings
+use Rattle.places.specs.Answers.{placedIs, settingIs}
 use Rattle.lines.specs.declared.Command.{Command as Read}
 use Rattle.lines.specs.declared.Command.the-variants as Reads
 use Rattle.lines.specs.declared.Reply.{Reply}
 use Rattle.lines.specs.declared.Reply.the-variants as Replies
 use Rattle.lines.specs.Lines.{Command, commandIs}
 use Rattle.lines.specs.Reply.{Said, replyIs}
+use Rattle.determined.specs.Determined.{OfDoubles}
 
 -- The refusal that a number is given for, with what it carries.
 refusalBy : ℕ → List ℕ → Refusal
 refusalBy k carried =
-    getD (ShortRecord ∷ ShortRecord ∷ Unsound ∷ NotSaved ∷ Absent ∷ Hidden (record { 0 = getD carried 0 0 }) ∷ Beyond ∷ Full ∷ UsedUp ∷ ShortBuffer ∷ RootFrame ∷ []) k ShortRecord
+    getD (ShortRecord ∷ ShortRecord ∷ Unsound ∷ NotSaved ∷ Absent ∷ Hidden (record { 0 = getD carried 0 0 }) ∷ Beyond ∷ Full ∷ UsedUp ∷ ShortBuffer ∷ RootFrame ∷ NotFinite ∷ NoEntry ∷ ShortRecord ∷ ShortRecord ∷ BadPlaces ∷ []) k ShortRecord
 
 -- It is the refusal that has the number and carries that: no two have both.
 refusal-back : (r : Refusal) → refusalBy (numberOf r) (carriedBy r) ≡ r
@@ -55,6 +63,9 @@ refusal-back Full = refl
 refusal-back UsedUp = refl
 refusal-back ShortBuffer = refl
 refusal-back RootFrame = refl
+refusal-back NotFinite = refl
+refusal-back NoEntry = refl
+refusal-back BadPlaces = refl
 
 module _ {A : Type 0} where
   -- The result that an answer is given for: one of the values, or a refusal.
@@ -124,6 +135,21 @@ pub loading-injective : Injective loadingIs
 loading-injective =
     told-back loadingIs (λ v. Loadings.Rows (getD v 0 0)) Loadings.Refused
     λ r. elim r [ Loadings.Rows n ↦ refl | Loadings.Refused k ↦ ap Loadings.Refused (refusal-back k) ]
+
+pub setting-injective : Injective settingIs
+setting-injective = told-back settingIs (λ v. Settings.Done) Settings.Refused λ r. elim r [ Settings.Done ↦ refl | Settings.Refused k ↦ ap Settings.Refused (refusal-back k) ]
+
+-- The place that values are given for, and so the one that an answer is.
+abbrev placeBy : List ℕ → Placed
+placeBy v = Placeds.Stands (cond (eqb (getD v 0 0) 1) (At (record { x = ofBits binary64 (getD v 1 0); y = ofBits binary64 (getD v 2 0) })) Itself)
+
+placed-back : (r : Placed) → OfDoubles r → resultBy placeBy Placeds.Refused (placedIs r) ≡ r
+placed-back (Placeds.Stands Itself) h = refl
+placed-back (Placeds.Stands (At p)) h = λ i. Placeds.Stands (At (record { x = ofBits-toBits binary64 (p .x) (h .0) i; y = ofBits-toBits binary64 (p .y) (h .1) i }))
+placed-back (Placeds.Refused k) h = ap Placeds.Refused (refusal-back k)
+
+pub placed-same : (r q : Placed) → OfDoubles r → OfDoubles q → placedIs r ≡ placedIs q → r ≡ q
+placed-same r q a b e = sym (placed-back r a) ∙ ap (resultBy placeBy Placeds.Refused) e ∙ placed-back q b
 
 -- The reply that is printed so; no two are printed alike.
 replyBy : Said → Reply

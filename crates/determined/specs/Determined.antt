@@ -3,7 +3,9 @@ use Prim.Native.Nat.{ℕ}
 use mathlib.Core.List.{List, [], _∷_}
 use mathlib.Core.Path.{_≡_}
 use lib.IntN.{ℤ}
+use lib.Ieee.{Float}
 use Rattle.rules.specs.Asks.{stretched}
+use Rattle.rules.specs.Places.{Place, Doubles}
 use Rattle.rules.specs.Calls.{Call, Answer, outcome}
 use Rattle.moves.specs.Answers.{freshIs, openedIs}
 use Rattle.navigates.specs.Answers.{navigatedIs}
@@ -17,12 +19,16 @@ use Rattle.asks.specs.Answers.{standingIs, sightIs, listedIs, stretchIs}
 use Rattle.outlines.specs.Answers.{outlinedIs}
 use Rattle.saved.specs.Answers.{savingIs}
 use Rattle.loads.specs.Answers.{loadingIs}
+use Rattle.points.specs.Points.{placeIs}
+use Rattle.places.specs.declared.Placed.{Placed}
+use Rattle.places.specs.declared.Placed.the-variants.{Stands, Refused}
+use Rattle.places.specs.Answers.{placedIs, settingIs}
 use Rattle.lines.specs.declared.Command.{Command}
 use Rattle.lines.specs.declared.Reply.{Reply}
 use Rattle.lines.specs.Lines.{parse as parseOf, commandIs}
 use Rattle.lines.specs.Reply.{replyIs}
 use Rattle.turns.specs.Turns.{turned}
-use Rattle.frame_history.specs.Face.{face, hidingFace}
+use Rattle.frame_history.specs.Face.{face, faceOver, hidingFace}
 
 -- "Any two outcomes that satisfy a promise are shown equal": P is the promise.
 abbrev pub AtMostOne : (A : Type 0) → (A → Type 0) → Type 0
@@ -31,6 +37,14 @@ AtMostOne A P = (x y : A) → P x → P y → x ≡ y
 -- At most one result of the code, with what the lent runs hold then, meets the promise that it is the outcome of a call: `is` gives the paper's number and values.
 abbrev pub OneResult : {A : Type 0} → (A → Answer) → Call → Type 0
 OneResult {A} is c = AtMostOne (A × List (List ℕ)) λ (r, runs). outcome c ≡ record { answer = is r; lent = runs }
+
+-- The same of a place, whose coordinates are doubles, as the type of the code has them: the bits of a double tell the double.
+abbrev pub OfDoubles : Placed → Type 0
+OfDoubles (Stands p) = Doubles (placeIs p)
+OfDoubles (Refused r) = Unit {0}
+
+abbrev pub OnePlace : Call → Type 0
+OnePlace c = AtMostOne (Placed × List (List ℕ)) λ (r, runs). OfDoubles r × (outcome c ≡ record { answer = placedIs r; lent = runs })
 
 -- The promise of each public call, over all that it may be handed.
 pub record Determined : Type 0 where
@@ -46,6 +60,9 @@ pub record Determined : Type 0 where
   pub outline : (words room : List ℕ) → OneResult outlinedIs (Call.Outline words room)
   pub save : (words room : List ℕ) → OneResult savingIs (Call.Save words room)
   pub load : (words bytes : List ℕ) → OneResult loadingIs (Call.Load words bytes)
+  pub set-place : (words places : List ℕ) (d : ℕ) (place : Place) → OneResult settingIs (Call.SetPlace words places d place)
+  pub place : (words places : List ℕ) (d : ℕ) → OnePlace (Call.AskPlace words places d)
+  pub place-at-zoom : (words places : List ℕ) (d : ℕ) (zoom : Float) → OnePlace (Call.AskAtZoom words places d zoom)
   -- The part that Stretch gives back.
   pub stretch : (takens upcomings : List ℕ) (δ : ℤ) → AtMostOne (List ℕ) λ part. part ≡ stretched takens upcomings δ
   -- Traverse with change rows as structs: the answer, the record and the rows.
@@ -60,9 +77,12 @@ pub record Determined : Type 0 where
   pub turn : (words changes line : List ℕ) →
       AtMostOne (Reply × List ℕ × List ℕ) λ (r, words', changes'). turned words changes line ≡ record { said = replyIs r; words = words'; changes = changes' }
   pub parse : (line : List ℕ) → AtMostOne Command λ r. commandIs r ≡ parseOf line
-  -- Each call for C, whose out words held `olds`: the number returned, the out words and the lent runs; and with change rows as structs.
+  -- Each call for C, whose out words held `olds`: the number returned, the out words and the lent runs; where fewer values than out words may be given; and with
+  -- change rows as structs.
   pub host : (c : Call) (olds : List ℕ) →
       AtMostOne (ℕ × List ℕ × List (List ℕ)) λ (n, outs, runs). face (outcome c) olds ≡ record { number = n; outs = outs; lent = runs }
+  pub host-place : (c : Call) (olds : List ℕ) →
+      AtMostOne (ℕ × List ℕ × List (List ℕ)) λ (n, outs, runs). faceOver (outcome c) olds ≡ record { number = n; outs = outs; lent = runs }
   -- And of those whose refusal 5 carries a document, the out word for it, which held `old`.
   pub host-hiding : (c : Call) (olds : List ℕ) (old : ℕ) →
       AtMostOne (ℕ × List ℕ × List (List ℕ) × ℕ) λ (n, outs, runs, new).

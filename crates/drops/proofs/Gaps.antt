@@ -16,7 +16,7 @@ use Rattle.laws.proofs.Tree.{TreeOf, tree-of}
 use Rattle.laws.proofs.Climb.{gone-self}
 use Rattle.laws.proofs.Removal.{stays}
 use Rattle.reads.specs.Within.{Within}
-use Rattle.reads.proofs.Nexts.{Earliest}
+use Rattle.laws.proofs.Loops.{Earliest}
 use Rattle.sound.specs.Check.{Examined}
 use Rattle.sound.proofs.Checks.{examined-sound, examined-fits}
 use Rattle.packs.specs.Packing.{docKept, parentKept, Moved, Over}

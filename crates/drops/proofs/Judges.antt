@@ -22,7 +22,7 @@ use Rattle.laws.proofs.Tests.{clash, off, by-lt, some-in, some-out}
 use Rattle.laws.proofs.Tree.{tree-of, distinct}
 use Rattle.laws.proofs.Climb.{hider-row}
 use Rattle.reads.specs.Within.{Before}
-use Rattle.reads.proofs.Nexts.{Earliest, earliest-out}
+use Rattle.laws.proofs.Loops.{Earliest, earliest-out}
 use Rattle.rows.specs.Readable.{readableRows}
 use Rattle.rows.proofs.Readable.{readable-rows}
 use Rattle.sound.specs.Check.{checkOf, Examined, Settles, Judged}

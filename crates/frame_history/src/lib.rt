@@ -15,15 +15,20 @@ use moves::Freshened;
 use moves::Opened;
 use navigates::Navigated;
 use outlines::Outlined;
+use places::Placed;
+use places::Setting;
+use points::Place;
+use points::Point;
 use reads::NONE;
 use saved::Saving;
 use traverses::Traversed;
 ghost use mathlib.Core.Path.{_≡_};
 ghost use mathlib.Core.List.{[], _∷_};
+ghost use Rattle.rules.specs.Places.{Place as Paper};
 ghost use Rattle.rules.specs.Calls.{Call, outcome};
 ghost use Rattle.changes.specs.Changes.{plain};
 ghost use Rattle.base.specs.Numbers.{numberOf, carriedBy};
-ghost use Rattle.frame_history.specs.Face.{face, carriedOr, hidingFace, Small, Told};
+ghost use Rattle.frame_history.specs.Face.{face, carriedOr, hidingFace, faceOver, Small, Told, ToldSetting, placeOuts, ToldPlace};
 
 // The document that a refusal carries, or what was there.
 fn carried_or(why: Refusal, old: u32) -> u32
@@ -296,4 +301,99 @@ pub extern "C" fn frame_history_load(words: &mut [u32], bytes: &[u8], rows: &mut
         }
         Loading::Refused(r) => base::refusal_number(r),
     }
+}
+
+// What a host sees of a setting: 0, or the refusal's number.
+fn told_setting(answer: Setting) -> u32
+    ensures { λ r. ⌜ ToldSetting answer r ⌝ }
+{
+    match answer {
+        Setting::Done => 0,
+        Setting::Refused(r) => base::refusal_number(r),
+    }
+}
+
+// Sets that the page of a document places itself.
+#[no_mangle]
+pub extern "C" fn frame_history_place_itself(
+    words: &[u32],
+    places: &mut [u64],
+    document: u32,
+) -> u32
+    ensures { λ r. ⌜ face (outcome (Call.SetPlace (now (words .entry)) (now (places .entry)) document Paper.itself)) []
+        ≡ record { number = r; outs = []; lent = now (places .exit) ∷ [] } ⌝ }
+{
+    let answer = places::set_place(words, places, DocNo(document), Place::Itself);
+    told_setting(answer)
+}
+
+// Sets a document's place at a point.
+#[no_mangle]
+pub extern "C" fn frame_history_place_at(
+    words: &[u32],
+    places: &mut [u64],
+    document: u32,
+    point: Point,
+) -> u32
+    ensures { λ r. ⌜ face (outcome (Call.SetPlace (now (words .entry)) (now (places .entry)) document (Paper.at (point .x) (point .y)))) []
+        ≡ record { number = r; outs = []; lent = now (places .exit) ∷ [] } ⌝ }
+{
+    let answer = places::set_place(words, places, DocNo(document), Place::At(point));
+    told_setting(answer)
+}
+
+// What a host sees of a place: its kind, and the point through its out doubles, which keep what they hold where the page places itself.
+fn told_place(answer: Placed, kind: &mut u32, x: &mut f64, y: &mut f64) -> u32
+    ensures { λ r. ⌜ ToldPlace answer (placeOuts (now (kind .entry)) (now (x .entry)) (now (y .entry))) (placeOuts (now (kind .exit)) (now (x .exit)) (now (y .exit))) r ⌝ }
+{
+    match answer {
+        Placed::Refused(r) => base::refusal_number(r),
+        Placed::Stands(place) => match place {
+            Place::Itself => {
+                *kind = 0;
+                0
+            }
+            Place::At(p) => {
+                *kind = 1;
+                *x = p.x;
+                *y = p.y;
+                0
+            }
+        },
+    }
+}
+
+// A document's place: 0 where the page places itself, or 1 and the point.
+#[no_mangle]
+pub extern "C" fn frame_history_place(
+    words: &[u32],
+    places: &[u64],
+    document: u32,
+    kind: &mut u32,
+    x: &mut f64,
+    y: &mut f64,
+) -> u32
+    ensures { λ r. ⌜ faceOver (outcome (Call.AskPlace (now (words .entry)) (now (places .entry)) document)) (placeOuts (now (kind .entry)) (now (x .entry)) (now (y .entry)))
+        ≡ record { number = r; outs = placeOuts (now (kind .exit)) (now (x .exit)) (now (y .exit)); lent = [] } ⌝ }
+{
+    let answer = places::place(words, places, DocNo(document));
+    told_place(answer, kind, x, y)
+}
+
+// A document's place at a page zoom.
+#[no_mangle]
+pub extern "C" fn frame_history_place_at_zoom(
+    words: &[u32],
+    places: &[u64],
+    document: u32,
+    zoom: f64,
+    kind: &mut u32,
+    x: &mut f64,
+    y: &mut f64,
+) -> u32
+    ensures { λ r. ⌜ faceOver (outcome (Call.AskAtZoom (now (words .entry)) (now (places .entry)) document zoom)) (placeOuts (now (kind .entry)) (now (x .entry)) (now (y .entry)))
+        ≡ record { number = r; outs = placeOuts (now (kind .exit)) (now (x .exit)) (now (y .exit)); lent = [] } ⌝ }
+{
+    let answer = places::place_at_zoom(words, places, DocNo(document), zoom);
+    told_place(answer, kind, x, y)
 }

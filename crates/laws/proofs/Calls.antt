@@ -1,6 +1,6 @@
 -- Laws of the ladder of refusals, over all calls. Assumes nothing.
 use Prim.Native.Nat.{ℕ}
-use mathlib.Core.List.{List, [], _∷_}
+use mathlib.Core.List.{List, [], _∷_, _++_}
 use mathlib.Core.Logic.{_↔_, inl, inr, ⊎-elim}
 use mathlib.Core.Path.{_≡_, refl, sym, ap, subst, _∙_}
 use Rattle.rules.specs.Calls.{Call, Answer, Outcome, Rung, lentTo, refusals, accepted, ladder, outcome, Given, NoneGiven}
@@ -29,6 +29,23 @@ module _ (lent : List (List ℕ)) (done : Outcome) where
   ladder-given k vs [] h = absurd h
   ladder-given k vs (r ∷ rungs) h = ⊎-elim (λ g. rw (g .0, g .1, g .2) refl) (λ g. rw (g .0) (ladder-given k vs rungs (g .1))) h
 
+-- A LONGER TABLE
+
+pub given-more : (k : ℕ) (vs : List ℕ) (rungs more : List Rung) → Given k vs rungs → Given k vs (rungs ++ more)
+unfolding Given
+given-more k vs [] more h = absurd h
+given-more k vs (r ∷ rungs) more h = ⊎-elim inl (λ g. inr (g .0, given-more k vs rungs more (g .1))) h
+
+pub given-after : (k : ℕ) (vs : List ℕ) (rungs more : List Rung) → NoneGiven rungs → Given k vs more → Given k vs (rungs ++ more)
+unfolding Given NoneGiven
+given-after k vs [] more h g = g
+given-after k vs (r ∷ rungs) more h g = inr (h .0, given-after k vs rungs more (h .1) g)
+
+pub none-more : (rungs more : List Rung) → NoneGiven rungs → NoneGiven more → NoneGiven (rungs ++ more)
+unfolding NoneGiven
+none-more [] more h g = g
+none-more (r ∷ rungs) more h g = (h .0, none-more rungs more (h .1) g)
+
 -- By what the ladder says.
 pub by-ladder {ℓ} : {C : Type ℓ} (rungs : List Rung) → (NoneGiven rungs → C) → ((k : ℕ) (vs : List ℕ) → Given k vs rungs → C) → C
 unfolding Given NoneGiven
@@ -54,6 +71,9 @@ accepted-gives c k vs e = subst IsGiven e (given c)
     given (Call.Outline words room) = tt
     given (Call.Save words room) = tt
     given (Call.Load words bytes) = tt
+    given (Call.SetPlace words places d place) = tt
+    given (Call.AskPlace words places d) = tt
+    given (Call.AskAtZoom words places d zoom) = tt
 
 module _ (c : Call) where
   pub outcome-accepted : NoneGiven (refusals c) → outcome c ≡ accepted c

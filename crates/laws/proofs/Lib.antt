@@ -27,3 +27,5 @@ pub mod Appended
 pub mod OutlineTexts
 pub mod OutlineWeights
 pub mod Outlines
+pub mod Doubles
+pub mod Stores

@@ -1,17 +1,18 @@
 -- Loops over the numbers below a bound: what holds before the first turn, what a turn adds, what a return tells.
 -- In each, b is what the turn's test answered at i. The rulesets are for `search` at the needs of a loop. Assumes nothing.
 use Prim.Native.Nat.{ℕ, zero, suc, _+_, _-_, _≤_, _<_}
-use mathlib.Core.Bool.{Bool, true, false, _&&_, So, cond}
+use mathlib.Core.Bool.{Bool, true, false, not, _&&_, So, cond}
 use mathlib.Core.Path.{_≡_, refl, sym, ap, subst, _∙_}
 use native.Mathlib.Nat.{not-suc-le-zero, le-antisymm}
 use native.Mathlib.Numerals.{add-one}
 use native.Mathlib.Omega.{arith}
+use lib.Dec.{leb}
 use mir.Syntax.{Width}
 use mir.Val.{Fits, boolByte}
 use borrow.Author.Needs.{needs}
 use borrow.Author.Tests.{not-true, not-false, lt-ltb, le-ltb, le-leb, lt-leb, eq-eqb, ne-eqb}
 use Rattle.rules.specs.Below.{someBelow, allBelow, count, earliest, latest}
-use Rattle.laws.proofs.Tests.{clash, off, some-in, some-out, all-out, count-zero, count-yes, count-no, earliest-is}
+use Rattle.laws.proofs.Tests.{test, clash, off, by-lt, least, some-in, some-out, all-out, count-zero, count-yes, count-no, earliest-is}
 
 module _ (p : ℕ → Bool) where
   -- EVERY
@@ -99,6 +100,44 @@ module _ (p : ℕ → Bool) where
 
   pub last-found : (n i : ℕ) (b : Bool) → latest p n ≡ latest p i → 0 < i → b ≡ p (i - 1) → b ≡ true → i - 1 ≡ latest p n
   last-found n i b h l e t = sym (h ∙ down (λ i k. So (p k) → latest p i ≡ k) latest-yes i l (sym e ∙ t))
+
+-- What the earliest number is, whether one passes or not.
+pub record Earliest (p : ℕ → Bool) (n e : ℕ) : Type 0 where
+  pub within : e ≤ n
+  pub passes : e < n → So (p e)
+  pub none-before : (m : ℕ) → m < e → p m ≡ false
+
+pub earliest-out : (p : ℕ → Bool) (n : ℕ) → Earliest p n (earliest p n)
+earliest-out p n =
+    test (someBelow n p)
+    (λ t.
+    let o = some-out p n t in
+    let k = least p (o .0) (o .2) in
+    rw (earliest-is p n (omega arith) (k .2) (k .3)) (record { within = omega arith; passes = λ l. k .2; none-before = λ m l. off (p m) (k .3 m l) }))
+    (λ f. rw (earliest-none p n f) (record { within = omega arith; passes = λ l. absurd (omega arith); none-before = λ m l. off (p m) (λ s. clash (some-in p n l s) f) }))
+
+pub earliest-in : (p : ℕ → Bool) (n e : ℕ) → Earliest p n e → e ≡ earliest p n
+earliest-in p n e h =
+    by-lt e n
+    (λ l. sym (earliest-is p n l (h .passes l) (λ m k s. clash s (h .none-before m k))))
+    (λ l. let q : e ≡ n = le-antisymm (h .within) l in q ∙ sym (earliest-none p n (off (someBelow n p) (λ s. let k = some-out p n s in clash (k .2) (h .none-before (k .0) (omega arith))))))
+
+-- The same tests have the same earliest number.
+pub earliest-same : (p q : ℕ → Bool) (n : ℕ) → ((k : ℕ) → k < n → p k ≡ q k) → earliest p n ≡ earliest q n
+earliest-same p q n h =
+    let e = earliest-out p n in
+    let w = e .within in
+    earliest-in q n (earliest p n) (record { within = w; passes = λ l. sym (h (earliest p n) l) ∙ e .passes l; none-before = λ m l. sym (h m (omega arith)) ∙ e .none-before m l })
+
+-- None passes exactly where the earliest is past the last.
+pub earliest-past : (p : ℕ → Bool) (n : ℕ) → leb n (earliest p n) ≡ not (someBelow n p)
+earliest-past p n =
+    test (someBelow n p)
+    (λ s.
+    let k = some-out p n s in
+    let e = earliest-out p n in
+    rw s (lt-leb n (earliest p n) (by-lt (earliest p n) n (λ l. l) (λ m. absurd (clash (k .2) (e .none-before (k .0) (omega arith)))))))
+    (λ f. rw f (le-leb n (earliest p n) (let e = earliest-none p n f in omega arith)))
 
 pub count-within : (i k : ℕ) (b : Bool) → k ≤ i → k + boolByte b ≤ i + 1
 count-within i k true l = omega arith

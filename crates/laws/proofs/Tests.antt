@@ -50,6 +50,10 @@ pub and-true : (a : Bool) → (a && true) ≡ a
 and-true true = refl
 and-true false = refl
 
+pub and-both : (a b : Bool) → So (a && b) → So a × So b
+and-both true b h = (refl, h)
+and-both false b h = absurd (false≢true h)
+
 -- By the order of two numbers.
 pub below-cases : {i n : ℕ} → i < suc n → (i ≡ n) ⊎ (i < n)
 below-cases h = eq-or-lt-of-le (le-of-suc-le-suc h)
@@ -84,6 +88,15 @@ module _ (p : ℕ → Bool) where
   all-out zero t k l = absurd (not-suc-le-zero l)
   all-out (suc n) t k l =
       let u = simp and-eq-true-iff at t in ⊎-elim (λ e. rw e (u .1)) (λ m. all-out n (u .0) k m) (below-cases l)
+
+-- Not every one passes: one that does not.
+pub all-fails-at : (p : ℕ → Bool) (n : ℕ) → allBelow n p ≡ false → (k : ℕ) × (k < n) × (p k ≡ false)
+unfolding allBelow
+all-fails-at p zero h = absurd (false≢true (sym h))
+all-fails-at p (suc n) h =
+    test (p n)
+    (λ t. let k = all-fails-at p n (sym (and-true (allBelow n p)) ∙ ap (λ b. allBelow n p && b) (sym t) ∙ h) in (k .0, omega (arith, k .1), k .2))
+    (λ f. (n, omega arith, f))
 
 pub some-same : (p q : ℕ → Bool) (n : ℕ) → ((k : ℕ) → k < n → p k ≡ q k) → someBelow n p ≡ someBelow n q
 unfolding someBelow

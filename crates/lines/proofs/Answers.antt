@@ -64,6 +64,9 @@ number-small Refusals.Full = omega arith
 number-small Refusals.UsedUp = omega arith
 number-small Refusals.ShortBuffer = omega arith
 number-small Refusals.RootFrame = omega arith
+number-small Refusals.NotFinite = omega arith
+number-small Refusals.NoEntry = omega arith
+number-small Refusals.BadPlaces = omega arith
 
 denied-within : (k : ℕ) (carried : List ℕ) (p s : ℕ) → k < tens 2 → Narrow carried → p < tens 20 → s < tens 20 → length (deniedText k carried p s) ≤ 66
 unfolding deniedText

@@ -16,7 +16,7 @@ use Rattle.laws.proofs.Tests.{test}
 use Rattle.laws.proofs.Removal.{sound-rows, stays}
 use Rattle.laws.proofs.Standing.{upto-start, rest-upcoming}
 use Rattle.reads.specs.Within.{Within}
-use Rattle.reads.proofs.Nexts.{earliest-out}
+use Rattle.laws.proofs.Loops.{earliest-out}
 use Rattle.sound.specs.Check.{Examined}
 use Rattle.sound.specs.Survey.{standOf}
 use Rattle.sound.specs.declared.Stand.{Stand}

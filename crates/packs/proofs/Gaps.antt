@@ -10,7 +10,7 @@ use Rattle.rules.specs.Words.{capacity, rowsOf}
 use Rattle.laws.proofs.Tree.{TreeOf}
 use Rattle.laws.proofs.Climb.{gone-self}
 use Rattle.laws.proofs.Removal.{stays}
-use Rattle.reads.proofs.Nexts.{Earliest, earliest-out}
+use Rattle.laws.proofs.Loops.{Earliest, earliest-out}
 use Rattle.packs.specs.Packing.{parentKept, Moved, Over}
 use Rattle.packs.proofs.Packed.{Packed, packed-starts, packed-ends, packed-sees, packed-more}
 use Rattle.packs.proofs.Stays.{early-stays, stays-is}

@@ -7,6 +7,9 @@ use mathlib.Core.Bool.{Bool, false}
 use mathlib.Core.List.{List, [], _∷_, _++_, map, flatMap}
 use mathlib.Core.Path.{_≡_, refl, ap}
 use lib.Dec.{eqb}
+use lib.Count.{trailingZeros}
+use lib.Ieee.{Float, nan, binary64, span, size, odd, units, round, mul, ofFields, toBits, ofBits}
+use lib.Ieee.{climb as climbs}
 use lib.IntN.{pos, negℤ}
 use lib.ListN.{length, getD, drop, replicate}
 use lib.Seq.{sets-eq}
@@ -18,6 +21,7 @@ use Rattle.rules.specs.Words.{put, tableOf, rowsOf, wordsOf, written}
 use Rattle.rules.specs.Sound.{soundTable?, sound?}
 use Rattle.rules.specs.Asks.{takenList, upcomingList, stretched, outlineFrame, outlineOf}
 use Rattle.rules.specs.Saved.{number, docsOf, shownPlace, parentOf, contents, body, saved, toldRow, toldRows, loaded, fromSave?}
+use Rattle.rules.specs.Places.{Place, finite, entryOf, fine?, placeOf, freedTo, spot, placed}
 use Rattle.rules.specs.Calls.{Call, Answer, Outcome, refusals, accepted, ladder, outcome}
 use Rattle.rules.specs.Runs.{Move, on, after, run}
 
@@ -560,3 +564,123 @@ put-first old values h = rw zero-add at (sets-eq values old 0 (rw zero-add h))
 pub roomy-holds : outcome (roomy .call) ≡ roomy .expected
 unfolding tableOf wordsOf written refusals accepted ladder outcome flatMap
 roomy-holds = ap (λ run. record { answer = Answer.gives []; lent = run ∷ [] }) (put-first _ _ (omega arith))
+
+-- SCROLL PLACES (document 02, L5)
+
+-- The words of an entry, and of a store.
+abbrev entry : ℕ → ℕ → ℕ → ℕ → List ℕ
+entry d kind x y = d ∷ kind ∷ x ∷ y ∷ []
+
+abbrev store : List (List ℕ) → List ℕ
+store es = flatMap (λ e. e) es
+
+-- The bits of -0, 0.1, 1.5, 3, -2 and 1e308, of the infinity and of a NaN.
+abbrev minusZero : ℕ
+minusZero = 9223372036854775808
+
+abbrev tenth : ℕ
+tenth = 4591870180066957722
+
+abbrev oneHalf : ℕ
+oneHalf = 4609434218613702656
+
+abbrev three : ℕ
+three = 4613937818241073152
+
+abbrev minusTwo : ℕ
+minusTwo = 13835058055282163712
+
+abbrev huge : ℕ
+huge = 9214871658872686752
+
+abbrev endless : ℕ
+endless = 9218868437227405312
+
+abbrev odds : ℕ
+odds = 9221120237041093308
+
+-- The double of some bits, and the point of two.
+abbrev dbl : ℕ → Float
+dbl bits = ofBits binary64 bits
+
+abbrev point : ℕ → ℕ → Place
+point x y = Place.at (dbl x) (dbl y)
+
+abbrev set : ℕ → Place → List (List ℕ) → Answer → List (List ℕ) → Small
+set d place before answer after = small (Call.SetPlace X (store before) d place) answer (store after ∷ [])
+
+abbrev ask : ℕ → List (List ℕ) → Answer → Small
+ask d es answer = small (Call.AskPlace X (store es) d) answer []
+
+abbrev zoomed : ℕ → Float → List (List ℕ) → Answer → Small
+zoomed d zoom es answer = small (Call.AskAtZoom X (store es) d zoom) answer []
+
+-- All three calls, with a zoom and a coordinate that is not finite: refused by k on that record and store.
+abbrev allNo : ℕ → List ℕ → List ℕ → ℕ → List Small
+allNo k words places d =
+    small (Call.SetPlace words places d (Place.at nan (dbl three))) (no k) (places ∷ [])
+    ∷ small (Call.AskPlace words places d) (no k) []
+    ∷ small (Call.AskAtZoom words places d nan) (no k) [] ∷ []
+
+-- Every entry is fine, none is free, and document 9 is not in X.
+abbrev held : List (List ℕ)
+held = entry 4 1 tenth three ∷ entry 9 1 huge tenth ∷ []
+
+abbrev twice : List (List ℕ)
+twice = entry 9 0 0 0 ∷ entry 9 1 tenth three ∷ []
+
+abbrev pub scrolls : List Small
+scrolls =
+    -- "for each document", visible or not; "the same bits [..], negative zero included"; "the first free one", whatever it held.
+    set 2 (point minusZero oneHalf) (entry none 2 5 6 ∷ entry none 0 7 8 ∷ []) (Answer.gives []) (entry 2 1 minusZero oneHalf ∷ entry none 0 7 8 ∷ [])
+    ∷ ask 2 (entry 2 1 minusZero oneHalf ∷ []) (Answer.gives (1 ∷ minusZero ∷ oneHalf ∷ []))
+    -- An entry of its own, though a free one stands before it.
+    ∷ set 4 (point oneHalf tenth) (entry none 0 5 6 ∷ entry 4 0 endless odds ∷ []) (Answer.gives []) (entry none 0 5 6 ∷ entry 4 1 oneHalf tenth ∷ [])
+    -- "kind 0 keeps the entry's doubles", whatever bits they are; "the first free one, for either kind".
+    ∷ set 4 Place.itself (entry 4 1 tenth three ∷ []) (Answer.gives []) (entry 4 0 tenth three ∷ [])
+    ∷ set 1 Place.itself (entry 0 0 endless odds ∷ entry none 1 odds endless ∷ []) (Answer.gives []) (entry 0 0 endless odds ∷ entry 1 0 odds endless ∷ [])
+    -- "frees the entries of documents gone from the record": 9 is gone, 5 is upcoming and stays. "Freeing changes only the document".
+    ∷ set 4 (point three tenth) (entry 5 1 tenth three ∷ held) (Answer.gives []) (entry 5 1 tenth three ∷ entry 4 1 three tenth ∷ entry none 1 huge tenth ∷ [])
+    ∷ set 1 Place.itself held (Answer.gives []) (entry 4 1 tenth three ∷ entry 1 0 huge tenth ∷ [])
+    -- "by their number alone": 4294967300 is 4 in 32 bits, and another number.
+    ∷ set 4 Place.itself (entry 4294967300 1 tenth three ∷ entry none 0 5 6 ∷ []) (Answer.gives []) (entry 4 0 tenth three ∷ entry none 0 5 6 ∷ [])
+    -- Words past the last whole entry.
+    ∷ set 4 Place.itself (entry none 1 tenth three ∷ (4 ∷ 2 ∷ endless ∷ []) ∷ []) (Answer.gives []) (entry 4 0 tenth three ∷ (4 ∷ 2 ∷ endless ∷ []) ∷ [])
+    -- "A document without an entry reads as 'the page places itself'", kind 0 likewise.
+    ∷ ask 4 [] (ok 0)
+    ∷ ask 4 ((4 ∷ 1 ∷ tenth ∷ []) ∷ []) (ok 0)
+    ∷ ask 1 held (ok 0)
+    ∷ ask 4 (entry 4 0 tenth three ∷ []) (ok 0)
+    ∷ ask 4 (entry none 1 oneHalf oneHalf ∷ held) (Answer.gives (1 ∷ tenth ∷ three ∷ []))
+    -- "each coordinate times the zoom, rounded once": 0.1 times 3 is one unit above 0.3; signs multiply, and a zoom of 0 is one.
+    ∷ zoomed 4 (dbl three) held (Answer.gives (1 ∷ 4599075939470750516 ∷ 4621256167635550208 ∷ []))
+    ∷ zoomed 4 (dbl minusTwo) (entry 4 1 minusZero tenth ∷ []) (Answer.gives (1 ∷ 0 ∷ 13819745816549104026 ∷ []))
+    ∷ zoomed 4 (dbl 0) (entry 4 1 huge minusTwo ∷ []) (Answer.gives (1 ∷ 0 ∷ minusZero ∷ []))
+    ∷ zoomed 1 (dbl three) held (ok 0)
+    -- "15 [..] for a store whose entries not free hold a document twice", in the record or not, "a kind above 1", 4294967297 being 1 in 32 bits, "or a point not finite".
+    ∷ ask 4 twice (no 15)
+    ∷ set 4 Place.itself (entry 9 1 huge tenth ∷ entry 4 0 0 0 ∷ entry 4 0 0 0 ∷ []) (no 15) (entry 9 1 huge tenth ∷ entry 4 0 0 0 ∷ entry 4 0 0 0 ∷ [])
+    ∷ ask 4 (entry 9 2 0 0 ∷ []) (no 15)
+    ∷ ask 4 (entry 4 4294967297 0 0 ∷ []) (no 15)
+    ∷ ask 4 (entry 9 1 endless 0 ∷ []) (no 15)
+    ∷ ask 4 (entry 4 1 0 odds ∷ []) (no 15)
+    -- Of a free entry, and of the doubles of kind 0, anything may stand.
+    ∷ ask 4 (entry none 2 endless odds ∷ entry none 1 odds 0 ∷ entry 4 0 odds endless ∷ []) (ok 0)
+    -- "11 for a given coordinate, zoom or product that is NaN or infinite", the zoom also where the page places itself. The entry of 9 is not freed.
+    ∷ set 1 (Place.at nan (dbl three)) held (no 11) held
+    ∷ set 1 (point three endless) held (no 11) held
+    ∷ zoomed 4 nan held (no 11)
+    ∷ zoomed 1 (dbl endless) held (no 11)
+    ∷ zoomed 0 (dbl three) (entry 0 1 huge tenth ∷ []) (no 11)
+    ∷ zoomed 0 (dbl minusTwo) (entry 0 1 tenth huge ∷ []) (no 11)
+    -- "12 when a new entry would find no room even after freeing"; an entry of its own needs none.
+    ∷ set 1 Place.itself (entry 4 1 tenth three ∷ entry 5 0 0 0 ∷ []) (no 12) (entry 4 1 tenth three ∷ entry 5 0 0 0 ∷ [])
+    ∷ set 1 (point three tenth) ((none ∷ 0 ∷ 0 ∷ []) ∷ []) (no 12) ((none ∷ 0 ∷ 0 ∷ []) ∷ [])
+    -- Refused in this order: 1, 2, 15, 4, 11, 12. A free entry is of no document that could be asked for.
+    ∷ (allNo 1 (replicate 6 0) (store twice) 9 ++ allNo 2 nine (store twice) 9 ++ allNo 15 X (store twice) 9 ++ allNo 4 X (entry none 1 tenth three) none
+    ++ set 1 (Place.at nan (dbl three)) [] (no 11) [] ∷ [])
+
+pub scrolls-hold : map (λ s. outcome (s .call)) scrolls ≡ map (λ s. s .expected) scrolls
+unfolding someBelow allBelow count earliest tab inRecord step reach put tableOf soundTable? sound? finite entryOf fine? placeOf freedTo spot placed
+    refusals accepted ladder outcome flatMap trailingZeros span climbs size odd units round mul ofFields ofBits toBits
+scrolls-hold = refl

@@ -1,10 +1,11 @@
 -- The calls: what is lent to each, when each is refused, and what it answers and leaves otherwise.
 use Prim.Native.Nat.{ℕ, _-_, _/_}
-use mathlib.Core.Bool.{Bool, true, false, not, _||_, So, cond}
+use mathlib.Core.Bool.{Bool, true, false, not, _&&_, _||_, So, cond}
 use mathlib.Core.List.{List, [], _∷_}
 use mathlib.Core.Logic.{_⊎_}
 use mathlib.Core.Path.{_≡_}
 use lib.Dec.{eqb, leb, ltb}
+use lib.Ieee.{Float}
 use lib.IntN.{ℤ, pos, negsuc, _+ℤ_, natAbs}
 use lib.ListN.{length}
 use Rattle.rules.specs.Rows.{Row, none, inRecord, isFrame, flag}
@@ -14,8 +15,10 @@ use Rattle.rules.specs.Words.{put, capacity, tableOf, rowsOf, written}
 use Rattle.rules.specs.Sound.{sound?}
 use Rattle.rules.specs.Asks.{takenList, upcomingList, tooFar, stretched, outlineOf}
 use Rattle.rules.specs.Saved.{parentOf, saved, loaded, fromSave?}
+use Rattle.rules.specs.Places.{Place, finite, finitePlace, scaled, placeWords, fine?, placeOf, freed, noRoom, placed}
 
--- A call with all that it is handed: `words` is the record, `room` a lent answer buffer, `parent`, `from` and `d` documents, `frame` a frame.
+-- A call with all that it is handed: `words` is the record, `room` a lent answer buffer, `parent`, `from` and `d` documents, `frame` a frame,
+-- `places` a store of scroll places.
 pub data Call : Type 0 where
   Fresh : (words : List ℕ) → Call
   Open : (words : List ℕ) (parent : ℕ) → Call
@@ -30,6 +33,9 @@ pub data Call : Type 0 where
   Outline : (words : List ℕ) (room : List ℕ) → Call
   Save : (words : List ℕ) (room : List ℕ) → Call
   Load : (words : List ℕ) (bytes : List ℕ) → Call
+  SetPlace : (words places : List ℕ) (d : ℕ) (place : Place) → Call
+  AskPlace : (words places : List ℕ) (d : ℕ) → Call
+  AskAtZoom : (words places : List ℕ) (d : ℕ) (zoom : Float) → Call
 
 -- An answer is a refusal's number with what it carries, or the values that document 01 names, in its order; yes is 1 and no is 0.
 pub data Answer : Type 0 where
@@ -56,6 +62,9 @@ lentTo (Call.StretchCount takens upcomings δ) = []
 lentTo (Call.Outline words room) = room ∷ []
 lentTo (Call.Save words room) = room ∷ []
 lentTo (Call.Load words bytes) = words ∷ []
+lentTo (Call.SetPlace words places d place) = places ∷ []
+lentTo (Call.AskPlace words places d) = []
+lentTo (Call.AskAtZoom words places d zoom) = []
 
 -- THE TABLE "Nine ways to say no", with what document 02 adds.
 
@@ -104,6 +113,20 @@ noFrame words f = not (isFrame (rowsOf words) f)
 abbrev pub rootFrame : List ℕ → ℕ → Bool
 rootFrame words f = eqb (parentOf (rowsOf words) f) none
 
+-- "15, right after 2, for a store whose entries not free hold a document twice, a kind above 1 or a point not finite" (document 02, L5)
+abbrev pub badPlaces : List ℕ → Bool
+badPlaces places = not (fine? places)
+
+-- "11 for a given coordinate, zoom or product that is NaN or infinite, then 12 when a new entry would find no room even after freeing"
+abbrev pub notFinite : Place → Bool
+notFinite place = not (finitePlace place)
+
+abbrev pub overZoomed : Float → Place → Bool
+overZoomed zoom place = not (finite zoom && finitePlace (scaled zoom place))
+
+abbrev pub noEntry : List ℕ → List ℕ → ℕ → Bool
+noEntry words places d = noRoom (freed (rowsOf words) places) d
+
 -- A number, when it is given, unless a line before it applies, and what it carries then: nothing but for 5.
 pub record Rung : Type 0 where
   pub number : ℕ
@@ -118,7 +141,7 @@ infix 69 _naming_
 abbrev pub _naming_ : Rung → ℕ → Rung
 r naming d = record { number = r .number; holds = r .holds; carries = d ∷ [] }
 
--- The lines of each call in the order in which they are asked: that of their numbers but for "10 comes after 4 and before 5".
+-- The lines of each call in the order in which they are asked: that of their numbers but for "10 comes after 4 and before 5" and "15, right after 2".
 unfoldable pub refusals : Call → List Rung
 refusals (Call.Fresh words) = 1 when short words ∷ []
 refusals (Call.Open words parent) =
@@ -143,8 +166,14 @@ refusals (Call.StretchCount takens upcomings δ) = 6 when tooFar takens upcoming
 refusals (Call.Outline words room) = 1 when short words ∷ 2 when unsound words ∷ 9 when tooShort room (outlineOf (tableOf words)) ∷ []
 refusals (Call.Save words room) = 1 when short words ∷ 2 when unsound words ∷ 9 when tooShort room (saved (tableOf words)) ∷ []
 refusals (Call.Load words bytes) = 1 when short words ∷ 3 when not (fromSave? bytes) ∷ 7 when ltb (capacity words) (length (loaded bytes .rows)) ∷ []
+refusals (Call.SetPlace words places d place) =
+    1 when short words ∷ 2 when unsound words ∷ 15 when badPlaces places ∷ 4 when absent words d ∷ 11 when notFinite place ∷ 12 when noEntry words places d ∷ []
+refusals (Call.AskPlace words places d) = 1 when short words ∷ 2 when unsound words ∷ 15 when badPlaces places ∷ 4 when absent words d ∷ []
+refusals (Call.AskAtZoom words places d zoom) =
+    1 when short words ∷ 2 when unsound words ∷ 15 when badPlaces places ∷ 4 when absent words d ∷ 11 when overZoomed zoom (placeOf places d) ∷ []
 
--- What a call answers and leaves that is not refused. A run keeps what stands past the values written into it. Drop: "the count of rows removed as its value".
+-- What a call answers and leaves that is not refused. A run keeps what stands past the values written into it. Drop: "the count of rows removed as its value". A place:
+-- its kind, and the bits of a point.
 infix 20 _leaving_
 abbrev pub _leaving_ : List ℕ → List (List ℕ) → Outcome
 values leaving runs = record { answer = Answer.gives values; lent = runs }
@@ -168,6 +197,9 @@ accepted (Call.StretchCount takens upcomings δ) = natAbs δ ∷ [] leaving []
 accepted (Call.Outline words room) = length (outlineOf (tableOf words)) / 2 ∷ [] leaving put room 0 (outlineOf (tableOf words)) ∷ []
 accepted (Call.Save words room) = length (saved (tableOf words)) ∷ [] leaving put room 0 (saved (tableOf words)) ∷ []
 accepted (Call.Load words bytes) = length (loaded bytes .rows) ∷ [] leaving written words (loaded bytes) ∷ []
+accepted (Call.SetPlace words places d place) = [] leaving placed (freed (rowsOf words) places) d place ∷ []
+accepted (Call.AskPlace words places d) = placeWords (placeOf places d) leaving []
+accepted (Call.AskAtZoom words places d zoom) = placeWords (scaled zoom (placeOf places d)) leaving []
 
 -- Where several apply, the first line of the call's table is given, in the calls of document 01 "the smallest number". "A refusal returns its number
 -- alone", but for what 5 carries, "and changes no lent word or byte."

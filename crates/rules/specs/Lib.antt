@@ -7,5 +7,6 @@ pub mod Words
 pub mod Sound
 pub mod Asks
 pub mod Saved
+pub mod Places
 pub mod Calls
 pub mod Runs

@@ -19,7 +19,7 @@ use Rattle.laws.proofs.Tests.{count-zero, count-yes, count-no, count-split, one
 use Rattle.laws.proofs.Frames.{step-in, first, reach-in, reach-out}
 use Rattle.laws.proofs.Central.{only-shown}
 use Rattle.laws.proofs.Tree.{rising-all}
-use Rattle.reads.proofs.Nexts.{earliest-out, earliest-in}
+use Rattle.laws.proofs.Loops.{earliest-out, earliest-in}
 use Rattle.laws.proofs.Reflect.{Ref, ref-lt, ref-le, ref-eq, ref-so, ref-map, ref-and, ref-all, sound-table-is}
 use Rattle.sound.specs.Quick.{ordered, linked, comes, calm, plain, joined, rowFine, quick?}
 

@@ -1,0 +1,5 @@
+pub mod Store
+pub mod Present
+pub mod Freeing
+pub mod Writes
+pub mod Judged
