@@ -46,12 +46,20 @@ fn held([_, kind, x, y]: Entry) -> Option<Place> {
     }
 }
 
-/// Whether every entry is free, or sane and of a document that no earlier one is of.
+/// Whether every entry is free, or sane and of a document that no earlier one is of: one above all of theirs is not looked for.
 fn fine(entries: &[Entry]) -> bool {
-    (0..entries.len()).all(|at| {
-        let document = entries[at][0];
-        document == FREE || held(entries[at]).is_some() && entry_of(&entries[..at], document).is_none()
-    })
+    let mut high = 0;
+    for (at, &entry) in entries.iter().enumerate() {
+        let document = entry[0];
+        if document == FREE {
+            continue;
+        }
+        if held(entry).is_none() || document <= high && entry_of(&entries[..at], document).is_some() {
+            return false;
+        }
+        high = high.max(document);
+    }
+    true
 }
 
 /// The rows, and the number that no document of theirs reaches.

@@ -138,10 +138,17 @@ module _ (words : List ℕ) (d : ℕ) (f : Found) (scan : f ≡ foundBelow (isDo
     unfolding climbOf climbAt
     there = climb-at lost (climbAsk (readableRows words)) (readableRows words) (length (readableRows words)) d q (sym scan ∙ e)
 
-    pub seen-by : (code : ℕ) (h : Hider) (n : ℕ) → Coded (climbAt (readableRows words) (q .0)) code → h ≡ hiderBy (code % 8589934592) → n ≡ code / 8589934592 →
+    lower : q .0 < length (readableRows words)
+    lower = found-lower (isDoc (readableRows words) d) (length (readableRows words)) q (sym scan ∙ e)
+
+    pub found-within : Within words (q .0)
+    found-within = readable-within words (q .0) lower
+
+    pub seen-by : (code : ℕ) (h : Hider) (n : ℕ) → Coded (climbAt (rowsOf words) (q .0)) code → h ≡ hiderBy (code % 8589934592) → n ≡ code / 8589934592 →
         sightBy h n ≡ sightOf (readableRows words) d
     unfolding sightOf hiderOf hiderAt
-    seen-by code h n c g far =
+    seen-by code h n read g far =
+        let c = climbed-within words (length (readableRows words)) (q .0) refl code lower read in
         let who : climbOf (readableRows words) d .hider ≡ h = ap (λ x. x .hider) there ∙ sym (hiding-is (readableRows words) (q .0) code h c g) in
         let links : climbOf (readableRows words) d .links ≡ n = ap (λ x. x .links) there ∙ sym (c .far) ∙ sym far in
         rw (here, who, links) refl

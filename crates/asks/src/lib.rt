@@ -40,8 +40,8 @@ pub fn position(words: &[u32]) -> Standing
 
 // Whether a document can be seen, and if not, who hides it; and how many parent links were followed to tell.
 pub enum Sight {
-    Visible(usize),
-    Hidden(DocNo, usize),
+    Visible(u32),
+    Hidden(DocNo, u32),
     Refused(Refusal),
 }
 
@@ -114,10 +114,10 @@ fn is_nobody(code: u64) -> bool
 }
 
 // How many links a climb has followed.
-fn links(code: u64) -> usize
+fn links(code: u64) -> u32
     ensures { λ r. ⌜ r ≡ code / 8589934592 ⌝ }
 {
-    (code / LINK) as usize
+    (code / LINK) as u32
 }
 
 // Who hides the document at any place.
@@ -141,7 +141,7 @@ pub fn seen(words: &[u32], d: DocNo) -> Sight
     match rows::find(words, d) {
         Found::Nothing => Sight::Refused(Refusal::Absent),
         Found::At(at) => {
-            let code = climbed(words, at);
+            let code = ascend(&words, at);
             let n = links(code);
             match told(code) {
                 Hider::Nobody => Sight::Visible(n),

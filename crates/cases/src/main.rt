@@ -92,7 +92,7 @@ fn take_out(words: &mut [u32], frame: u32) {
     say(b": ");
     match drops::drop_frame(words, FrameNo(frame)) {
         Dropped::Rows(n) => {
-            say_number(n as u64);
+            say_word(n);
             say(b" rows went\n");
         }
         Dropped::Refused(r) => say_refused(r),
@@ -139,9 +139,9 @@ fn go(words: &mut [u32], delta: i32) {
 }
 
 // How many links a climb followed.
-fn say_links(n: usize) {
+fn say_links(n: u32) {
     say(b", links ");
-    say_number(n as u64);
+    say_word(n);
     say(b"\n");
 }
 

@@ -89,7 +89,7 @@ fn close_gaps(words: &mut [u32], first: RowPlace, frame: FrameNo) -> usize
 }
 
 // Takes the frame out where no refusal is given, of a sound record in which it begins there. How many rows went.
-fn take_out(words: &mut [u32], first: RowPlace, frame: FrameNo) -> usize
+fn take_out(words: &mut [u32], first: RowPlace, frame: FrameNo) -> u32
     requires { ⌜ Examined (now words) × (first .0 ≡ firstRow (rowsOf (now words)) (frame .0)) × NoneGiven (refusals (Call.Drop (now words) (frame .0))) ⌝ }
     ensures { λ r. ⌜ (r ≡ length (rowsOf (now (words .entry))) - length (dropped (tableOf (now (words .entry))) (frame .0) .rows)) × (now (words .exit) ≡ written (now (words .entry)) (dropped (tableOf (now (words .entry))) (frame .0))) ⌝ }
 {
@@ -98,12 +98,12 @@ fn take_out(words: &mut [u32], first: RowPlace, frame: FrameNo) -> usize
     let top = rows::next_frame_number(words);
     let k = close_gaps(words, first, frame);
     packs::end_rows(words, k, n, next, top);
-    n - k
+    (n - k) as u32
 }
 
 // What Drop answers: how many rows went.
 pub enum Dropped {
-    Rows(usize),
+    Rows(u32),
     Refused(Refusal),
 }
 

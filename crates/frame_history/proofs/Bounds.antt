@@ -10,8 +10,8 @@ use mir.Syntax.{w32}
 use mir.Val.{SFits}
 use borrow.Author.Tests.{ltb-false, not-false}
 use Rattle.rules.specs.Rows.{Row, Table, none}
-use Rattle.rules.specs.Steps.{position, steps, scriptLength, climbOf}
-use Rattle.rules.specs.Moves.{walked, dropped, frames, changeRow, changes, shownDoc}
+use Rattle.rules.specs.Steps.{position, steps, scriptLength}
+use Rattle.rules.specs.Moves.{walked, frames, changeRow, changes, shownDoc}
 use Rattle.rules.specs.Words.{capacity, tableOf, rowsOf}
 use Rattle.rules.specs.Asks.{takenList, upcomingList, outlineOf}
 use Rattle.rules.specs.Saved.{saved, loaded}
@@ -20,7 +20,6 @@ use Rattle.laws.proofs.Tests.{test}
 use Rattle.laws.proofs.Calls.{by-ladder, outcome-accepted, outcome-refused}
 use Rattle.laws.proofs.Central.{position-steps}
 use Rattle.laws.proofs.Reflect.{sound-is}
-use Rattle.laws.proofs.Climb.{links-within}
 use Rattle.laws.proofs.Standing.{steps-most}
 use Rattle.laws.proofs.Lists.{taken-length, upcoming-length}
 use Rattle.laws.proofs.Trips.{saved-length, frames-few}
@@ -62,15 +61,6 @@ module _ (words : List ℕ) (a : Answer) (runs : List (List ℕ)) where
       let j = steps-most (rowsOf words) in
       (omega arith, omega arith, omega arith)
 
-  -- How many links a climb follows.
-  pub links-small : (d b h l : ℕ) → outcome (Call.Visible words d) ≡ record { answer = a; lent = runs } → a ≡ Answer.gives (b ∷ h ∷ l ∷ []) → l ≤ 512
-  unfolding refusals NoneGiven accepted climbOf
-  links-small d b h l e g =
-      let n = not-refused (Call.Visible words d) a runs _ e g in
-      let m = sound-is words .0 (not-false _ (n .1 .0)) .table .s1 .fits in
-      let z : climbOf (rowsOf words) d .links ≡ l = ap (value 2) (given-is (Call.Visible words d) a runs _ e g) in
-      omega (arith, links-within (rowsOf words) (length (rowsOf words)) d)
-
   -- How many steps are taken, and how many upcoming.
   pub lists-small : (takens upcomings : List ℕ) (t u : ℕ) → outcome (Call.Lists words takens upcomings) ≡ record { answer = a; lent = runs } → a ≡ Answer.gives (t ∷ u ∷ []) → (t ≤ 512) × (u ≤ 512)
   unfolding refusals NoneGiven accepted
@@ -86,16 +76,6 @@ module _ (words : List ℕ) (a : Answer) (runs : List (List ℕ)) where
       let k = taken-length (rowsOf words) (s .s6) (s .s7) in
       let n = upcoming-length (rowsOf words) (s .s6) (s .s7) in
       (omega arith, omega arith)
-
-  -- The rows that a removal takes.
-  pub drop-small : (f n : ℕ) → outcome (Call.Drop words f) ≡ record { answer = a; lent = runs } → a ≡ Answer.gives (n ∷ []) → n ≤ 512
-  unfolding refusals NoneGiven accepted
-  drop-small f n e g =
-      let h = not-refused (Call.Drop words f) a runs _ e g in
-      let v = given-is (Call.Drop words f) a runs _ e g in
-      let x : length (rowsOf words) - length (dropped (tableOf words) f .rows) ≡ n = ap (value 0) v in
-      let m = sound-is words .0 (not-false _ (h .1 .0)) .table .s1 .fits in
-      omega arith
 
   -- The rows of loaded bytes.
   pub load-small : (bytes : List ℕ) (n : ℕ) → outcome (Call.Load words bytes) ≡ record { answer = a; lent = runs } → a ≡ Answer.gives (n ∷ []) → n ≤ 512

@@ -114,7 +114,7 @@ pub extern "C" fn frame_history_drop(
 {
     match drops::drop_frame(words, FrameNo(frame)) {
         Dropped::Rows(n) => {
-            *removed = n as u32;
+            *removed = n;
             0
         }
         Dropped::Refused(r) => refused(r, hiding),
@@ -203,13 +203,13 @@ pub extern "C" fn frame_history_visible(
         Sight::Visible(n) => {
             *answer = 1;
             *hiding = NONE;
-            *links = n as u32;
+            *links = n;
             0
         }
         Sight::Hidden(h, n) => {
             *answer = 0;
             *hiding = h.0;
-            *links = n as u32;
+            *links = n;
             0
         }
         Sight::Refused(r) => base::refusal_number(r),

@@ -8,14 +8,15 @@ use lib.Dec.{eqb, leb}
 use lib.Ieee.{Float, binary64, ofBits}
 use lib.ListN.{getD}
 use borrow.Author.Tests.{eq-eqb, ne-eqb, eqb-true, eqb-false, le-leb, lt-leb, lt-ltb, le-ltb}
-use Rattle.rules.specs.Below.{allBelow, earliest}
+use Rattle.rules.specs.Below.{someBelow, allBelow, earliest}
 use Rattle.rules.specs.Rows.{Row, none, inRecord}
 use Rattle.rules.specs.Places.{finite, finitePlace, entries, documentIn, kindIn, placeIn, isOf, entryOf, placeOf, sane, fineAt, fine?, goneIn}
-use Rattle.laws.proofs.Tests.{test, and-both, all-out}
+use Rattle.laws.proofs.Tests.{test, off, by-lt, and-both, some-out, all-out}
 use Rattle.laws.proofs.Loops.{all-fails, all-done, earliest-out, earliest-past}
 use Rattle.points.specs.Points.{placeIs}
 use Rattle.points.specs.declared.Place.{Place as Given}
 use Rattle.points.specs.declared.Place.the-variants.{Itself, At}
+use Rattle.places.specs.Store.{Reaches}
 
 module _ (places : List ℕ) (i : ℕ) where
   -- AN ENTRY'S DOCUMENT, as it is read
@@ -78,8 +79,42 @@ module _ (places : List ℕ) (i : ℕ) where
       pub fine-not : b ≡ false → false ≡ fineAt places i
       fine-not f = rw (kept, sym e ∙ f) refl
 
+      pub fine-above : (high : ℕ) → b ≡ true → Reaches places i high → high < w → true ≡ fineAt places i
+      fine-above high t below l =
+          let new : someBelow i (isOf places (documentIn places i)) ≡ false =
+              off _ (λ s.
+              let k = some-out (isOf places (documentIn places i)) i s in
+              let same : documentIn places (k .0) ≡ w = eqb-true _ _ (k .2) ∙ sym (document-is w read) in
+              let m = below (k .0) (k .1) (λ z. held (sym same ∙ z)) in
+              omega arith) in
+          rw (kept, sym e ∙ t, new) refl
+
       pub fine-first : (first : ℕ) → b ≡ true → first ≡ earliest (isOf places w) i → leb i first ≡ fineAt places i
       fine-first first t g = rw (kept, sym e ∙ t, g, document-is w read) (earliest-past (isOf places (documentIn places i)) i)
+
+-- HOW HIGH ITS DOCUMENTS REACH
+module _ (places : List ℕ) where
+  pub reaches-none : Reaches places 0 0
+  reaches-none k l held = omega arith
+
+  module _ (i high : ℕ) (below : Reaches places i high) (w : ℕ) (read : w ≡ getD places (4 * i + 0) 0) where
+    -- One entry more, where both that and the ones before keep below.
+    more : (top : ℕ) → high ≤ top → ((w ≡ none → ⊥) → w ≤ top) → Reaches places (i + 1) top
+    more top l here k m held =
+        by-lt k i (λ a. let z = below k a held in omega arith) (λ a.
+        let e : k ≡ i = omega arith in
+        let same : documentIn places k ≡ w = ap (documentIn places) e ∙ sym (document-is places i w read) in
+        let z = here (λ y. held (same ∙ y)) in
+        omega arith)
+
+    pub reaches-free : w ≡ none → Reaches places (i + 1) high
+    reaches-free e = more high (omega arith) (λ held. absurd (held e))
+
+    pub reaches-kept : w < high → Reaches places (i + 1) high
+    reaches-kept l = more high (omega arith) (λ held. omega arith)
+
+    pub reaches-on : high ≤ w → Reaches places (i + 1) w
+    reaches-on l = more w l (λ held. omega arith)
 
 module _ (places : List ℕ) (n i : ℕ) (count : n ≡ entries places) where
   pub fine-fails : (b : Bool) → i < n → b ≡ fineAt places i → b ≡ false → false ≡ fine? places

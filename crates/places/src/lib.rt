@@ -1,7 +1,8 @@
 // Scroll places: a store that the host lends, of four words an entry, and what is set and asked in it.
 //
-// What bounds it, for n rows and e entries: the test of the store looks from each entry through those before it, and freeing from each entry through the rows. So asking
-// takes e * e / 2 looks and setting e * (e / 2 + 2 * n); as many entries as the record has room for rows are always enough.
+// What bounds it, for n rows and e entries: the test of the store looks at each entry once, and from one whose document is not above all earlier ones through those before it; freeing looks
+// from each entry through the rows. So asking takes e looks where the documents rise and at most e * e / 2, and setting 2 * e * n more; as many entries as the record has room for rows are
+// always enough.
 use base::DocNo;
 use base::Refusal;
 use points::Place;
@@ -21,6 +22,7 @@ ghost use Rattle.rules.specs.Calls.{Call, outcome};
 ghost use Rattle.sound.specs.Check.{Examined, Judged};
 ghost use Rattle.points.specs.Points.{placeIs};
 ghost use Rattle.places.specs.Answers.{placedIs, settingIs, zoomedIs, Goes};
+ghost use Rattle.places.specs.Store.{Reaches};
 
 // The document word of an entry: the number of a document, or any other of 64 bits.
 struct Owner(u64);
@@ -96,9 +98,9 @@ fn is_sane(places: &[u64], i: usize) -> bool
     kind == 0
 }
 
-// Whether an entry is free, or sane and of a document that no earlier one is of.
-fn is_fine(places: &[u64], i: usize) -> bool
-    requires { ⌜ i < entries (now places) ⌝ }
+// Whether an entry is free, or sane and of a document that no earlier one is of: one above all of theirs is not looked for.
+fn is_fine(places: &[u64], i: usize, high: Owner) -> bool
+    requires { ⌜ (i < entries (now places)) × Reaches (now places) i (high .0) ⌝ }
     ensures { λ r. ⌜ r ≡ fineAt (now (places .entry)) i ⌝ }
 {
     let d = word_of(places, i, DOCUMENT);
@@ -108,7 +110,25 @@ fn is_fine(places: &[u64], i: usize) -> bool
     if !is_sane(places, i) {
         return false;
     }
+    if high.0 < d {
+        return true;
+    }
     i <= entry_below(places, i, Owner(d))
+}
+
+// The highest document of the entries up to one, free ones aside, by that of those before it.
+fn higher(places: &[u64], i: usize, high: Owner) -> Owner
+    requires { ⌜ (i < entries (now places)) × Reaches (now places) i (high .0) ⌝ }
+    ensures { λ r. ⌜ Reaches (now (places .entry)) (i + 1) (r .0) ⌝ }
+{
+    let d = word_of(places, i, DOCUMENT);
+    if d == FREE {
+        return high;
+    }
+    if d < high.0 {
+        return high;
+    }
+    Owner(d)
 }
 
 // The test of the store: refusal 15 where it fails.
@@ -116,11 +136,13 @@ fn are_fine(places: &[u64]) -> bool
     ensures { λ r. ⌜ r ≡ fine? (now (places .entry)) ⌝ }
 {
     let n = entry_count(places);
+    let mut high = Owner(0);
     let mut i = 0;
     while i < n {
-        if !is_fine(places, i) {
+        if !is_fine(places, i, high) {
             return false;
         }
+        high = higher(places, i, high);
         i += 1;
     }
     true

@@ -70,7 +70,7 @@ fn drop_line(words: &mut [u32], frame: FrameNo) -> Reply
     ensures { λ r. ⌜ Leaves (outcome (Call.Drop (now (words .entry)) (frame .0))) (replyIs r) (now (words .exit)) ⌝ }
 {
     match drops::drop_frame(words, frame) {
-        Dropped::Rows(n) => accept(words, n),
+        Dropped::Rows(n) => accept(words, n as usize),
         Dropped::Refused(r) => deny(words, r),
     }
 }

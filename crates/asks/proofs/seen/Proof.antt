@@ -3,7 +3,7 @@ use mathlib.Core.Path.{sym, ap, _∙_}
 use borrow.Author.Needs.{needs}
 use denote.Ref.{now}
 use Rattle.asks.specs.Answers.{hiderIs}
-use Rattle.asks.proofs.Climbs.{seen-absent, seen-by}
+use Rattle.asks.proofs.Climbs.{seen-absent, found-within, seen-by}
 use Rattle.asks.proofs.seen.Statement.{statement}
 use Rattle.asks.proofs.seen.Tie as tie
 
@@ -13,22 +13,24 @@ seen-spec =
     (λ c κs. search needs)
     (λ c. search needs)
     (λ c. search needs)
-    (λ c κs. search needs)
+    (λ c κs. let a = c .before .before in
+    let f = a .before .before in
+    found-within (now (f .before .before .args .t1)) _ _ (f .find .ensures) _ (a .at .given .1))
     (λ c κs. search needs)
     (λ c κs. search needs)
     (λ c. search needs)
     (λ c. search needs)
     (λ c. let c2 = c .before .before in
-    seen-absent (now (c2 .before .before .args .words)) _ _ (c2 .find .ensures) (c .enum-told .given .1))
+    seen-absent (now (c2 .before .before .args .t1)) _ _ (c2 .find .ensures) (c .enum-told .given .1))
     (λ c. let t = c .before .before in
     let n = t .before in
     let k = n .before in
-    let a = k .before .before in
+    let a = k .before .before .before in
     let f = a .before .before in
-    seen-by (now (f .before .before .args .words)) _ _ (f .find .ensures) _ (a .at .given .1) _ _ _ (k .climbed .ensures) (sym (ap hiderIs (c .enum-told2 .given .1)) ∙ t .told .ensures) (n .links .ensures))
+    seen-by (now (f .before .before .args .t1)) _ _ (f .find .ensures) _ (a .at .given .1) _ _ _ (k .ascend .ensures) (sym (ap hiderIs (c .enum-told2 .given .1)) ∙ t .told .ensures) (n .links .ensures))
     (λ c. let t = c .before .before .before in
     let n = t .before in
     let k = n .before in
-    let a = k .before .before in
+    let a = k .before .before .before in
     let f = a .before .before in
-    seen-by (now (f .before .before .args .words)) _ _ (f .find .ensures) _ (a .at .given .1) _ _ _ (k .climbed .ensures) (sym (ap hiderIs (c .before .h .given .1)) ∙ t .told .ensures) (n .links .ensures)))
+    seen-by (now (f .before .before .args .t1)) _ _ (f .find .ensures) _ (a .at .given .1) _ _ _ (k .ascend .ensures) (sym (ap hiderIs (c .before .h .given .1)) ∙ t .told .ensures) (n .links .ensures)))

@@ -117,7 +117,7 @@ module _ {M : Type 1} (𝓤 : URA M) (H : Heap 𝓤) (A : Atoms 𝓤) (W : Given
   n-fits = LL.owed P.the-type P′.the-laws trip _ is-trip .1 .1 .1 .0 .1
 
   first-fits : trip .first .0 < 2 ^ 32
-  first-fits = LL.owed F.the-type F′.the-laws (trip .first) _ (LL.owed P.the-type P′.the-laws trip _ is-trip .1 .1 .0) .0 .1
+  first-fits = LL.owed F.the-type F′.the-laws (trip .first) _ (LL.owed P.the-type P′.the-laws trip _ is-trip .0) .0 .1
 
   abbrev x : List ChangeRow → RefT (List ChangeRow)
   x l = record { ptr = (b, o); name = γ; now = l }
@@ -317,7 +317,7 @@ module _ {M : Type 1} (𝓤 : URA M) (H : Heap 𝓤) (A : Atoms 𝓤) (W : Given
       alloc1 ! (λ l₀. alloc1 ! (λ l₁. alloc1 ! (λ l₂. alloc1 ! (λ l₃. alloc1 ! (λ l₄. alloc1 ! (λ l₅. alloc1 ! (λ l₆. alloc1 ! (λ l₇. alloc1 ! (λ l₈. alloc1 ! (λ l₉. alloc1 ! (λ l₁₀. alloc0 ! $ params1 ! $
       pass1 ! (init ! 18 refl (tt, (tt, (record { fits = room .0 }, tt)))) $ pass1 ! (init ! 16 refl (tt, (tt, (record { fits = room′ .0 }, tt)))) $ pass1 ! (init ! 14 refl tv-typed) $ pass0 ! $
       assigns ! (of-opd ! (load ! (from ! (fld ! refl (stop !))) (look-in ! 14 (sub ! 3 refl (whole !))))) (from ! (stop !)) (init ! 12 refl (tt, record { fits = n-fits })) $
-      assigns ! (of-opd ! (load ! (from ! (fld ! refl (stop !))) (look-in ! 14 (sub ! 2 refl (whole !))))) (from ! (stop !)) (init ! 10 refl (LL.lawful F.the-type F′.the-laws 𝓤 H A W .typed (trip .first) _ (is-number (trip .first .0) first-fits) .0)) $
+      assigns ! (of-opd ! (load ! (from ! (fld ! refl (stop !))) (look-in ! 14 (sub ! 0 refl (whole !))))) (from ! (stop !)) (init ! 10 refl (LL.lawful F.the-type F′.the-laws 𝓤 H A W .typed (trip .first) _ (is-number (trip .first .0) first-fits) .0)) $
       assigns ! (of-opd ! (lit ! tt)) (from ! (stop !)) (init ! 8 refl (tt, record { fits = lit< tt })) $
       -- [_10; …; _9; …; _8; …; _7; …; _6; …; _5; …; _4; …; _3; …; _2; …; _1; …; room for _0; …; the tokens; what rows, words and the trip own]
       move ! (23 ∷ []) $ fsplit ! $ fsplit ! $ drop ! $ fsplit ! $ move ! (2 ∷ []) $ fsplit ! $ move ! (1 ∷ []) $ drop ! $ move ! (25 ∷ []) $ split ! $ move ! (1 ∷ []) $ split ! $

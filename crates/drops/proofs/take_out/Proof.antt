@@ -31,6 +31,10 @@ take-out-spec =
     let c12 = c6 .before .before .before .before .before .before in
     let c15 = c12 .before .before .before in
     omega (arith, few (now (c15 .args .words)) (c15 .pre .0) _ _ _ _ (c6 .close-gaps .ensures) (c12 .row-count .ensures)))
+    (λ c. let c6 = c .before .before .before .before .before .before in
+    let c12 = c6 .before .before .before .before .before .before in
+    let c15 = c12 .before .before .before in
+    record { fits = omega (arith, end-asks (now (c15 .args .words)) (c15 .pre .0) _ _ _ _ (c6 .close-gaps .ensures) (c12 .row-count .ensures)) })
     (λ c. search needs)
     (λ c. let c2 = c .before .before in
     let c6 = c2 .before .before .before .before in

@@ -1,9 +1,7 @@
 -- `frame_history_drop` meets its contract. Assumes nothing.
 use borrow.Author.Needs.{needs}
 use mathlib.Core.Path.{ap}
-use native.Mathlib.Omega.{arith}
 use Rattle.drops.specs.Answers.{droppedIs}
-use Rattle.frame_history.proofs.Bounds.{drop-small}
 use Rattle.frame_history.proofs.Faces.{hiding-gives, hiding-refuses}
 use Rattle.frame_history.proofs.frame_history_drop.Statement.{statement}
 use Rattle.frame_history.proofs.frame_history_drop.Tie as tie
@@ -13,7 +11,6 @@ frame-history-drop-spec =
     tie.close (tie.spec
     (λ c κs. search needs)
     (λ c. search needs)
-    (λ c. let b = drop-small _ _ _ _ _ (c .before .before .before .before .before .drop-frame .ensures) (ap droppedIs (c .before .n .given .1)) in omega (arith, b))
     (λ c. search needs)
     (λ c κs. search needs)
     (λ c. search needs)

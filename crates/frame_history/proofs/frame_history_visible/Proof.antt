@@ -1,9 +1,7 @@
 -- `frame_history_visible` meets its contract. Assumes nothing.
 use borrow.Author.Needs.{needs}
 use mathlib.Core.Path.{ap}
-use native.Mathlib.Omega.{arith}
 use Rattle.asks.specs.Answers.{sightIs}
-use Rattle.frame_history.proofs.Bounds.{links-small}
 use Rattle.frame_history.proofs.Faces.{face-gives, face-refuses}
 use Rattle.frame_history.proofs.frame_history_visible.Statement.{statement}
 use Rattle.frame_history.proofs.frame_history_visible.Tie as tie
@@ -13,9 +11,7 @@ frame-history-visible-spec =
     tie.close (tie.spec
     (λ c κs. search needs)
     (λ c. search needs)
-    (λ c. omega (arith, links-small _ _ _ _ _ _ _ (c .before .before .before .visible .ensures) (ap sightIs (c .before .n .given .1))))
     (λ c. search needs)
-    (λ c. omega (arith, links-small _ _ _ _ _ _ _ (c .before .before .before .visible .ensures) (ap sightIs (c .before .h .given .1))))
     (λ c. search needs)
     (λ c κs. search needs)
     (λ c. face-gives _ _ _ _ (c .before .before .before .visible .ensures) _ (ap sightIs (c .before .n .given .1)))

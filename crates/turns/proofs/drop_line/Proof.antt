@@ -11,6 +11,7 @@ drop-line-spec =
     tie.close (tie.spec
     (λ c κs. search needs)
     (λ c. search needs)
+    (λ c. search needs)
     (λ c κs. search needs)
     (λ c. search needs)
     (λ c κs. search needs)
