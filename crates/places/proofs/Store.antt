@@ -82,11 +82,11 @@ module _ (places : List ℕ) (i : ℕ) where
       pub fine-above : (high : ℕ) → b ≡ true → Reaches places i high → high < w → true ≡ fineAt places i
       fine-above high t below l =
           let new : someBelow i (isOf places (documentIn places i)) ≡ false =
-              off _ (λ s.
-              let k = some-out (isOf places (documentIn places i)) i s in
-              let same : documentIn places (k .0) ≡ w = eqb-true _ _ (k .2) ∙ sym (document-is w read) in
-              let m = below (k .0) (k .1) (λ z. held (sym same ∙ z)) in
-              omega arith) in
+          off _ (λ s.
+          let k = some-out (isOf places (documentIn places i)) i s in
+          let same : documentIn places (k .0) ≡ w = eqb-true _ _ (k .2) ∙ sym (document-is w read) in
+          let m = below (k .0) (k .1) (λ z. held (sym same ∙ z)) in
+          omega arith) in
           rw (kept, sym e ∙ t, new) refl
 
       pub fine-first : (first : ℕ) → b ≡ true → first ≡ earliest (isOf places w) i → leb i first ≡ fineAt places i
