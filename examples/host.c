@@ -1,13 +1,15 @@
-/* A clerk at the order desk: a stock list and a quotation side by side in one window. The clerk scrolls down the quotation, goes on in
-   both, goes back once and finds the line again, and follows another link. What was ahead is gone, and its number never comes back. A
-   click that comes too late, from a frame that is no longer to be seen, is refused, and support is told which document hides it. Then the
-   clerk picks cash sale, and the quotation's page takes its price frame out.
+/* A clerk at the order desk logs in, and Back never comes to the login page again. A stock list and a quotation stand side by side in one
+   window. The clerk scrolls down the quotation, goes on in both, goes back once and finds the line again, and follows another link. What was
+   ahead is gone, and its number never comes back. A click that comes too late, from a frame that is no longer to be seen, is refused, and
+   support is told which document hides it. Then the clerk picks cash sale, and the quotation's page takes its price frame out. In the
+   evening the history is saved, and loaded again as another desk would; and one that was saved before replacing came is loaded by its own
+   call and saved in the new form.
 
    Link with libframe_history.a, which `rt staticlib frame_history` writes. */
 #include "frame_history.h"
 #include <stdio.h>
 
-enum { ROWS = 8, WORDS = 3 + 4 * ROWS, ENTRIES = 3 };
+enum { ROWS = 8, WORDS = 3 + 4 * ROWS, BYTES = 12 + 24 * ROWS, ENTRIES = 3 };
 
 /* What a call returned that should not have been refused. */
 static int refused(const char *call, uint32_t number) {
@@ -20,6 +22,18 @@ static void stands(const uint32_t *words) {
   uint32_t position, steps, length;
   if (!refused("position", frame_history_position(words, WORDS, &position, &steps, &length)))
     printf("  position %u of %u, length %u\n", (unsigned)position, (unsigned)steps, (unsigned)length);
+}
+
+/* A new window with the login page, which gives way to the desk in its own row: no step, and nothing to go back to. */
+static int login(uint32_t *words, uint32_t *desk) {
+  uint32_t changes[4 * ROWS], count, hiding, number;
+  if (refused("fresh", frame_history_fresh(words, WORDS))) return 1;
+  if (refused("replace", frame_history_replace(words, WORDS, 0, desk, &hiding))) return 1;
+  printf("login page: document 0; after the login document %u is in its place\n", (unsigned)*desk);
+  number = frame_history_traverse(words, WORDS, -1, changes, 4 * ROWS, &count);
+  printf("back: refused, number %u\n", (unsigned)number);
+  stands(words);
+  return number != FRAME_HISTORY_BEYOND;
 }
 
 /* Goes back or forward, and tells what changed. */
@@ -86,55 +100,99 @@ static void kept(void) {
   printf("\n");
 }
 
-int main(void) {
-  uint32_t words[WORDS], frame, stock, quotation, more, terms, other, prices, removed, answer = 7, hiding = 7, links = 7, number;
+/* Saves a record and loads it again: 0 where the words are the same. */
+static int exchange(const uint32_t *words) {
+  uint8_t bytes[BYTES];
+  uint32_t again[WORDS], length, rows, same = 0;
+  if (refused("save", frame_history_save(words, WORDS, bytes, BYTES, &length))) return 1;
+  if (refused("load", frame_history_load(again, WORDS, bytes, length, &rows))) return 1;
+  for (int i = 0; i < WORDS; i++) same += words[i] == again[i];
+  printf("saved: %u bytes; loaded: %u rows, %s\n", (unsigned)length, (unsigned)rows, same == WORDS ? "the same record" : "ANOTHER RECORD");
+  return same != WORDS;
+}
 
-  if (refused("fresh", frame_history_fresh(words, WORDS))) return 1;
-  if (refused("open", frame_history_open(words, WORDS, 0, &stock, &frame, &hiding))) return 1;
-  printf("stock list: document %u in frame %u\n", (unsigned)stock, (unsigned)frame);
-  if (refused("open", frame_history_open(words, WORDS, 0, &quotation, &frame, &hiding))) return 1;
-  printf("quotation: document %u in frame %u\n", (unsigned)quotation, (unsigned)frame);
+/* A history in the old form: the document 0, and a frame in it with documents 1 and 2, the latter shown. */
+static const uint8_t old[] = {
+  0, 0, 0, 2, 0, 0, 0, 3, 0, 0, 0, 2,                 /* two frames; the next document is 3 and the next frame 2 */
+  0, 0, 0, 0, 255, 255, 255, 255, 0, 0, 0, 1, 0, 0, 0, 0, /* frame 0: no parent, one document, the first of them shown */
+  0, 0, 0, 1, 0, 0, 0, 0, 0, 0, 0, 2, 0, 0, 0, 1,     /* frame 1: in document 0, two documents, the second of them shown */
+  0, 0, 0, 0, 0, 0, 0, 1, 0, 0, 0, 2                  /* their numbers, with no places */
+};
+
+/* Loads it by the old form's own call, and saves it in the new one. */
+static int load_earlier(void) {
+  uint32_t words[WORDS], rows = 7, number = frame_history_load(words, WORDS, old, sizeof old, &rows);
+  printf("an earlier history of %u bytes: load refuses it, number %u\n", (unsigned)sizeof old, (unsigned)number);
+  if (number != FRAME_HISTORY_NOT_SAVED || rows != 7) return 1;
+  if (refused("load_old", frame_history_load_old(words, WORDS, old, sizeof old, &rows))) return 1;
+  printf("load_old takes it: %u rows\n", (unsigned)rows);
+  stands(words);
+  return exchange(words);
+}
+
+/* The stock list, its next page and the price terms, back once, and another link; what of it is asked for later. */
+typedef struct { uint32_t stock, quotation, terms, other; } pages;
+
+static int read_and_scroll(uint32_t *words, uint32_t desk, pages *p) {
+  uint32_t frame, more, hiding;
+  if (refused("open", frame_history_open(words, WORDS, desk, &p->stock, &frame, &hiding))) return 1;
+  printf("stock list: document %u in frame %u\n", (unsigned)p->stock, (unsigned)frame);
+  if (refused("open", frame_history_open(words, WORDS, desk, &p->quotation, &frame, &hiding))) return 1;
+  printf("quotation: document %u in frame %u\n", (unsigned)p->quotation, (unsigned)frame);
   stands(words);
 
-  if (scroll(words, quotation, 1312.5)) return 1;
-  if (refused("navigate", frame_history_navigate(words, WORDS, stock, &more, &hiding))) return 1;
+  if (scroll(words, p->quotation, 1312.5)) return 1;
+  if (refused("navigate", frame_history_navigate(words, WORDS, p->stock, &more, &hiding))) return 1;
   printf("next page of the stock list: document %u\n", (unsigned)more);
-  if (refused("navigate", frame_history_navigate(words, WORDS, quotation, &terms, &hiding))) return 1;
-  printf("price terms: document %u\n", (unsigned)terms);
+  if (refused("navigate", frame_history_navigate(words, WORDS, p->quotation, &p->terms, &hiding))) return 1;
+  printf("price terms: document %u\n", (unsigned)p->terms);
   stands(words);
 
-  if (scroll(words, terms, 64)) return 1;
+  if (scroll(words, p->terms, 64)) return 1;
   if (refused("place_itself", frame_history_place_itself(words, WORDS, places, PLACES, more))) return 1;
   kept();
 
   if (go(words, "back", -1)) return 1;
   printf("the line is there again:\n");
-  if (restore(words, quotation, 1.5) || restore(words, stock, 1.5)) return 1;
+  if (restore(words, p->quotation, 1.5) || restore(words, p->stock, 1.5)) return 1;
 
-  if (refused("navigate", frame_history_navigate(words, WORDS, quotation, &other, &hiding))) return 1;
-  printf("another link: document %u, not %u\n", (unsigned)other, (unsigned)terms);
+  if (refused("navigate", frame_history_navigate(words, WORDS, p->quotation, &p->other, &hiding))) return 1;
+  printf("another link: document %u, not %u\n", (unsigned)p->other, (unsigned)p->terms);
   stands(words);
-  if (scroll(words, other, 20.25)) return 1;
+  if (scroll(words, p->other, 20.25)) return 1;
   kept();
+  return 0;
+}
 
-  if (refused("open", frame_history_open(words, WORDS, other, &prices, &frame, &hiding))) return 1;
+/* A price frame in the quotation, a click that comes too late, and the frame taken out. */
+static int sell_for_cash(uint32_t *words, const pages *p) {
+  uint32_t frame, prices, more, removed, hiding;
+  if (refused("open", frame_history_open(words, WORDS, p->other, &prices, &frame, &hiding))) return 1;
   printf("prices: document %u in frame %u\n", (unsigned)prices, (unsigned)frame);
   if (refused("navigate", frame_history_navigate(words, WORDS, prices, &more, &hiding))) return 1;
   printf("next page of the prices: document %u\n", (unsigned)more);
   stands(words);
 
   if (go(words, "back twice", -2)) return 1;
-  sight(words, quotation);
-  sight(words, other);
+  sight(words, p->quotation);
+  sight(words, p->other);
   sight(words, prices);
-  if (click(words, prices, other) || go(words, "forward twice", 2)) return 1;
+  if (click(words, prices, p->other) || go(words, "forward twice", 2)) return 1;
 
   if (refused("drop", frame_history_drop(words, WORDS, frame, &removed, &hiding))) return 1;
   printf("cash sale: frame %u goes, %u rows\n", (unsigned)frame, (unsigned)removed);
   stands(words);
+  return 0;
+}
 
-  number = frame_history_visible(words, WORDS, terms, &answer, &hiding, &links);
-  printf("document %u: refused, number %u; the out words still hold %u, %u and %u\n", (unsigned)terms, (unsigned)number, (unsigned)answer,
+int main(void) {
+  uint32_t words[WORDS], desk, answer = 7, hiding = 7, links = 7, number;
+  pages p;
+
+  if (login(words, &desk) || read_and_scroll(words, desk, &p) || sell_for_cash(words, &p)) return 1;
+  number = frame_history_visible(words, WORDS, p.terms, &answer, &hiding, &links);
+  printf("document %u: refused, number %u; the out words still hold %u, %u and %u\n", (unsigned)p.terms, (unsigned)number, (unsigned)answer,
          (unsigned)hiding, (unsigned)links);
-  return number == FRAME_HISTORY_ABSENT && other != terms && answer == 7 && hiding == 7 && links == 7 ? 0 : 1;
+  if (number != FRAME_HISTORY_ABSENT || p.other == p.terms || answer != 7 || hiding != 7 || links != 7) return 1;
+  return exchange(words) || load_earlier() ? 1 : 0;
 }

@@ -2,7 +2,7 @@
 
    Each call returns 0, or the number of the refusal (below). A refused call changes no word and no byte that was lent to it:
    the record, the answer runs and the out words all keep what they held. There is one exception, the only word that a refusal writes:
-   the last out word of open, navigate and drop, `hiding`. Refusal 5, and nothing else, writes it: the document that hides the one that
+   the last out word of open, navigate, drop and replace, `hiding`. Refusal 5, and nothing else, writes it: the document that hides the one that
    has to be visible. On every other refusal, and where the call is accepted, it too keeps what it held.
 
    The document that hides one that is not visible is the nearest document, itself first and then upwards, that is not shown.
@@ -18,7 +18,7 @@
      change rows: four words, or one struct, a frame are always enough;
      lists: C words in each run are always enough, and so are as many as there are steps;
      outline: two words a row are always enough;
-     saved bytes: 12 + 16F + 4n for F frames and n rows, so 12 + 20C are always enough, and 10252 for any record;
+     saved bytes: 12 + 16F + 8n for F frames and n rows, so 12 + 24C are always enough, and 12300 for any record;
      a store of scroll places: as many entries as the record has room for rows are always enough. */
 #ifndef FRAME_HISTORY_H
 #define FRAME_HISTORY_H
@@ -36,7 +36,7 @@ enum {
   FRAME_HISTORY_UNSOUND = 2,      /* the record is unsound */
   FRAME_HISTORY_BAD_PLACES = 15,  /* the entries of the store that are not free hold a document twice, a kind above 1, or a point
                                      that is NaN or infinite */
-  FRAME_HISTORY_NOT_SAVED = 3,    /* the bytes are not bytes that frame_history_save writes */
+  FRAME_HISTORY_NOT_SAVED = 3,    /* the bytes are not bytes that frame_history_save writes, or for load_old, that it wrote before */
   FRAME_HISTORY_ABSENT = 4,       /* the document, or for drop the frame, is not in the record */
   FRAME_HISTORY_ROOT_FRAME = 10,  /* the root frame cannot be taken out */
   FRAME_HISTORY_HIDDEN = 5,       /* the document, or for drop the one that holds the frame, is there, but not visible */
@@ -53,8 +53,9 @@ enum {
    memcpy and memset, which the library calls, in a program that looks them up at their first call.
    tests/stack measures every call and holds it to its number here; docs/BENCH.md has what it measured, and why. */
 enum {
-  FRAME_HISTORY_STACK = 512,         /* every call but load and outline */
-  FRAME_HISTORY_LOAD_STACK = 9216,   /* load, which makes the record there before it writes the words that it was lent */
+  FRAME_HISTORY_STACK = 512,         /* every call but save, load, load_old and outline */
+  FRAME_HISTORY_SAVE_STACK = 7168,   /* save, which puts the rows in the order of their frames there, where these are many */
+  FRAME_HISTORY_LOAD_STACK = 9216,   /* load and load_old, which make the record there before they write the words that they were lent */
   FRAME_HISTORY_OUTLINE_STACK = 512, /* outline; it goes down the documents by calls, so besides */
   FRAME_HISTORY_OUTLINE_LEVEL = 128  /* so much for each level of visible documents: 1 for the root document alone, and 512 at most */
 };
@@ -84,6 +85,15 @@ uint32_t frame_history_navigate(uint32_t *words, size_t n, uint32_t from, uint32
    holds the frame, kept otherwise.
    Refused: 1, 2, 4, 10, 5, in this order. */
 uint32_t frame_history_drop(uint32_t *words, size_t n, uint32_t frame, uint32_t *removed, uint32_t *hiding);
+
+/* Replaces the visible document `document` in its own row, with no step: as a login page, which should vanish from Back. Everything beneath it
+   goes, shown or not, and the position falls by the steps taken there. Its row takes the next document number and stays where it is, shown,
+   with its frame and its parent. Every other row stays, the upcoming steps among them; Back never comes to the old document again, and its
+   number is not given again. No row more is needed, so a full record has room.
+   Lent to write: the record. Out: the number of the new document, kept on refusal; and `hiding`: on refusal 5 the document that hides
+   `document`, kept otherwise.
+   Refused: 1, 2, 4, 5, 8. */
+uint32_t frame_history_replace(uint32_t *words, size_t n, uint32_t document, uint32_t *replacement, uint32_t *hiding);
 
 /* Goes `delta` steps forward, or back where it is negative; 0 changes nothing.
    Lent to write: the record, and `changes` for change rows of four words each, one for each frame whose shown document changes, by
@@ -142,16 +152,27 @@ uint32_t frame_history_stretch(const uint32_t *taken, size_t taken_n, const uint
    Refused: 1, 2, 9. */
 uint32_t frame_history_outline(const uint32_t *words, size_t n, uint32_t *pairs, size_t pairs_n, uint32_t *count);
 
-/* Writes the saved form of the record.
+/* Writes the saved form of the record, which desks may exchange: numbers of four bytes each, the highest byte first. The contents come first: how
+   many frames there are, the next document number and the next frame number; then for each frame, by rising frame number, the frame, its
+   parent document (4294967295 for the root frame), how many documents it has, and which of them is shown, counted from 0. Then the
+   bodies, frame by frame in the same order: for each of its documents, in the order of their rows, the document's number and the place of its
+   row in the record, counted from 0. These are 12 + 16F + 8n bytes for F frames and n rows, 36 for a fresh record.
    Lent to read: the record. Lent to write: `bytes`; bytes past the saved form are kept.
    Out: its length in bytes; kept on refusal.
    Refused: 1, 2, 9. */
 uint32_t frame_history_save(const uint32_t *words, size_t n, uint8_t *bytes, size_t bytes_n, uint32_t *length);
 
-/* Fills a record from bytes that frame_history_save wrote. What the words held does not matter. `bytes_n` is the saved length.
+/* Fills a record from bytes that frame_history_save wrote, and from no others. What the words held does not matter. `bytes_n` is the saved length.
    Lent to write: the record. Lent to read: the bytes. Out: how many rows the record has; kept on refusal.
    Refused: 1, 3, 7. */
 uint32_t frame_history_load(uint32_t *words, size_t n, const uint8_t *bytes, size_t bytes_n, uint32_t *rows);
+
+/* The same from bytes of the old form, which frame_history_save wrote before documents could be replaced, and from no others. It has the same
+   contents, and in the bodies the document numbers alone, rising as the rows' numbers all did: 12 + 16F + 4n bytes. A desk loads an old
+   history by this call and saves it in the new form. No bytes are of both forms, so what frame_history_load refuses by 3 may be tried here.
+   Lent to write: the record. Lent to read: the bytes. Out: how many rows the record has; kept on refusal.
+   Refused: 1, 3, 7. */
+uint32_t frame_history_load_old(uint32_t *words, size_t n, const uint8_t *bytes, size_t bytes_n, uint32_t *rows);
 
 /* SCROLL PLACES. For each document the host may keep either that the page places itself, or a point in CSS pixels. Places live in a store
    that the host lends beside the record; the record is only read by these calls, and no other call has the store.
@@ -163,8 +184,8 @@ uint32_t frame_history_load(uint32_t *words, size_t n, const uint8_t *bytes, siz
    The library moves a double as it is, and multiplies it rounding to nearest, ties to even, subnormal numbers among them. A host that sets
    another rounding mode, or flushes subnormal numbers to zero (as -ffast-math may), is outside that promise.
 
-   An entry belongs to a document's number. `frame_history_load` puts another record under the same store, and its documents would find the
-   places of equal numbers: lend a fresh store with it. */
+   An entry belongs to a document's number: what replaces a document has none at first. `frame_history_load` and `frame_history_load_old` put another
+   record under the same store, and its documents would find the places of equal numbers: lend a fresh store with it. */
 #define FRAME_HISTORY_FREE 4294967295u
 
 /* An entry: the document, or FRAME_HISTORY_FREE; 0 where the page places itself, 1 for the point; the point, used only for kind 1. */

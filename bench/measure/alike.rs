@@ -1,6 +1,6 @@
 //! Both libraries must answer alike and leave the same in all that is lent.
 use crate::calls::{Call, Lent, make};
-use crate::cases::{Case, after, last};
+use crate::cases::{Case, after, last, saved};
 use crate::face::{OURS, TWIN};
 
 /// Makes a call with both libraries; the answer, and what is left.
@@ -20,6 +20,7 @@ fn others(call: Call, most: u32) -> Vec<Call> {
         Call::Navigate(_) => (0..=most).map(Call::Navigate).collect(),
         Call::Visible(_) => (0..=most).map(Call::Visible).collect(),
         Call::Drop(_) => (0..=most).map(Call::Drop).collect(),
+        Call::Replace(_) => (0..=most).map(Call::Replace).collect(),
         Call::PlaceItself(_) => (0..=most).map(Call::PlaceItself).collect(),
         Call::PlaceAt(_) => (0..=most).map(Call::PlaceAt).collect(),
         Call::Place(_) => (0..=most).map(Call::Place).collect(),
@@ -88,7 +89,7 @@ pub fn check(case: &Case) {
 
 /// Fails where the libraries differ near a case: on other arguments, and on damaged and short runs.
 pub fn check_near(case: &Case) {
-    for call in others(case.call, case.lent.words[0] + 1) {
+    for call in others(case.call, case.lent.words[1] + 1) {
         both(case.name, call, &case.lent);
     }
     for lent in damaged(&case.lent) {
@@ -101,11 +102,23 @@ pub fn check_hidden(words: &[u32]) {
     let lent = Lent::new(after(Call::Navigate(0), words).words);
     let (_, told) = both("hidden", Call::Visible(last(words)), &lent);
     assert_eq!(told.outs[..2], [0, 0], "the last document is not hidden by the root's");
-    for call in [Call::Open(0), Call::Navigate(0), Call::Drop(0), Call::Visible(0)] {
+    for call in [Call::Open(0), Call::Navigate(0), Call::Drop(0), Call::Replace(0), Call::Visible(0)] {
         for call in others(call, lent.words[0] + 1) {
             both("hidden", call, &lent);
         }
     }
+}
+
+/// Fails where the libraries differ on a record with documents replaced: on every call with every small argument, and on what is loaded of its saved form.
+pub fn check_replaced(words: &[u32]) {
+    let lent = Lent::with_store(words.to_vec());
+    let numbered = [Call::Open(0), Call::Navigate(0), Call::Drop(0), Call::Replace(0), Call::Visible(0), Call::Traverse(0), Call::PlaceItself(0), Call::Place(0)];
+    for call in numbered.into_iter().flat_map(|call| others(call, words[1] + 1)).chain([Call::Position, Call::Lists, Call::Outline, Call::Save]) {
+        both("replaced", call, &lent);
+    }
+    let (answer, again) = both("replaced", Call::Load, &saved(words));
+    assert!(answer == 0 && again.words == words, "what is saved is not loaded again");
+    both("replaced", Call::LoadOld, &saved(words));
 }
 
 /// Fails where the libraries differ on a store without entries of the last documents, and with two others that are free or of documents that are gone.

@@ -11,6 +11,7 @@ pub enum Call {
     Navigate(u32),
     Traverse(i32),
     Drop(u32),
+    Replace(u32),
     Position,
     Visible(u32),
     Lists,
@@ -18,6 +19,7 @@ pub enum Call {
     Outline,
     Save,
     Load,
+    LoadOld,
     PlaceItself(u32),
     PlaceAt(u32),
     Place(u32),
@@ -50,7 +52,7 @@ impl Lent {
     pub fn new(words: Vec<u32>) -> Lent {
         let len = words.len();
         let given = [1.25f64, -0.0].map(f64::to_bits);
-        Lent { words, first: vec![7; len], second: vec![7; len], bytes: vec![7; 5 * len], outs: [7; 3], places: vec![], given, doubles: [7; 2] }
+        Lent { words, first: vec![7; len], second: vec![7; len], bytes: vec![7; 6 * len], outs: [7; 3], places: vec![], given, doubles: [7; 2] }
     }
 
     /// A record with a store of as many entries as it has documents, in their order and each at a point.
@@ -82,6 +84,7 @@ pub fn make(face: &Face, call: Call, lent: &mut Lent) -> u32 {
             Call::Navigate(from) => (face.navigate)(words, count, black_box(from), a, b),
             Call::Traverse(delta) => (face.traverse)(words, count, black_box(delta), first, first_count, a),
             Call::Drop(frame) => (face.drop)(words, count, black_box(frame), a, b),
+            Call::Replace(document) => (face.replace)(words, count, black_box(document), a, b),
             Call::Position => (face.position)(words, count, a, b, c),
             Call::Visible(document) => (face.visible)(words, count, black_box(document), a, b, c),
             Call::Lists => (face.lists)(words, count, first, first_count, second, second_count, a, b),
@@ -89,6 +92,7 @@ pub fn make(face: &Face, call: Call, lent: &mut Lent) -> u32 {
             Call::Outline => (face.outline)(words, count, first, first_count, a),
             Call::Save => (face.save)(words, count, bytes, bytes_count, a),
             Call::Load => (face.load)(words, count, bytes, bytes_count, a),
+            Call::LoadOld => (face.load_old)(words, count, bytes, bytes_count, a),
             Call::PlaceItself(document) => (face.place_itself)(words, count, places, places_count, black_box(document)),
             Call::PlaceAt(document) => (face.place_at)(words, count, places, places_count, black_box(document), black_box(Point { x, y })),
             Call::Place(document) => (face.place)(words, count, places, places_count, black_box(document), a, p, q),

@@ -1,13 +1,21 @@
 //! The calls that are measured, each on a record of a shape.
 use crate::calls::{Call, Lent, make};
 use crate::face::OURS;
-use crate::shapes::{Shape, nested, record};
+use crate::shapes::{Shape, nested, record, replaced};
 
 /// A call, and what is lent to it.
 pub struct Case {
     pub name: &'static str,
     pub call: Call,
     pub lent: Lent,
+}
+
+impl Case {
+    /// Whether it has to look at rows more than a few times: documents of a store, or of a record in which some were replaced.
+    pub fn looks(&self) -> bool {
+        let rows = &self.lent.words[3..].as_chunks::<4>().0[..self.lent.words[0] as usize];
+        self.call.has_store() || !rows.is_sorted_by_key(|row| row[0])
+    }
 }
 
 /// What is left after a call of the library that must be accepted.
@@ -40,9 +48,18 @@ fn shown_in(words: &[u32], frame: u32) -> u32 {
 }
 
 /// A record's saved form beside the record.
-fn saved(words: &[u32]) -> Lent {
+pub fn saved(words: &[u32]) -> Lent {
     let mut lent = after(Call::Save, words);
     lent.bytes.truncate(lent.outs[0] as usize);
+    lent
+}
+
+/// The same in the old form, of a record whose numbers rise: the entries have no places.
+fn saved_before(words: &[u32]) -> Lent {
+    let mut lent = saved(words);
+    let contents = lent.bytes.len() - 8 * words[0] as usize;
+    let documents = lent.bytes[contents..].as_chunks::<8>().0.iter().flat_map(|entry| entry[..4].to_vec());
+    lent.bytes = lent.bytes[..contents].iter().copied().chain(documents).collect();
     lent
 }
 
@@ -54,13 +71,15 @@ pub fn cases(shape: Shape, rows: usize) -> Vec<Case> {
     let less = record(shape, rows - 1, rows);
     let stepped = after(Call::Navigate(last(&less)), &less).words;
     let second = second_frame(&less);
-    let held = after(Call::Open(shown_in(&less, second)), &less).words;
+    let holder = shown_in(&less, second);
+    let held = after(Call::Open(holder), &less).words;
     let mut cases = vec![
         case("fresh", Call::Fresh, &whole),
         case("open", Call::Open(last(&less)), &less),
         case("navigate", Call::Navigate(last(&less)), &less),
         case("traverse by 1", Call::Traverse(-1), &stepped),
         case("drop", Call::Drop(second), &held),
+        case("replace", Call::Replace(holder), &held),
         case("position", Call::Position, &whole),
         case("visible", Call::Visible(last(&whole)), &whole),
         case("lists", Call::Lists, &whole),
@@ -68,6 +87,7 @@ pub fn cases(shape: Shape, rows: usize) -> Vec<Case> {
         case("outline", Call::Outline, &whole),
         case("save", Call::Save, &whole),
         Case { name: "load", call: Call::Load, lent: saved(&whole) },
+        Case { name: "load old", call: Call::LoadOld, lent: saved_before(&whole) },
         placed("place itself", Call::PlaceItself(last(&whole)), &whole),
         placed("place at", Call::PlaceAt(last(&whole)), &whole),
         placed("place", Call::Place(last(&whole)), &whole),
@@ -80,6 +100,9 @@ pub fn cases(shape: Shape, rows: usize) -> Vec<Case> {
         cases.insert(5, case("traverse by all steps", Call::Traverse(-steps), &stepped));
         let nested = nested(rows);
         cases.insert(7, case("drop, half beneath", Call::Drop(second_frame(&nested)), &nested));
+        cases.insert(9, case("replace, half beneath", Call::Replace(nested[7]), &nested));
+        cases.insert(11, case("position, one replaced", Call::Position, &replaced(rows, 1)));
+        cases.insert(12, case("position, ten replaced", Call::Position, &replaced(rows, 10)));
     }
     cases
 }

@@ -17,7 +17,7 @@ fn turns(times: u32, mut turn: impl FnMut()) -> f64 {
     start.elapsed().as_nanos() as f64 / times as f64
 }
 
-/// The nanoseconds of a call, over so many. A traversal goes there and back; the words that Open, Navigate and Drop change are put back.
+/// The nanoseconds of a call, over so many. A traversal goes there and back; the words that Open, Navigate, Drop and Replace change are put back.
 fn time(face: &Face, call: Call, lent: &mut Lent, times: u32) -> f64 {
     match call {
         Call::Traverse(delta) => {
@@ -27,7 +27,7 @@ fn time(face: &Face, call: Call, lent: &mut Lent, times: u32) -> f64 {
             });
             pair / 2.0
         }
-        Call::Open(_) | Call::Navigate(_) | Call::Drop(_) => {
+        Call::Open(_) | Call::Navigate(_) | Call::Drop(_) | Call::Replace(_) => {
             let undo = Undo::of(&lent.words, &after(call, &lent.words).words);
             turns(times, || {
                 make(face, call, lent);

@@ -13,6 +13,7 @@ pub struct Face {
     pub navigate: unsafe extern "C" fn(Words, usize, u32, Out, Out) -> u32,
     pub traverse: unsafe extern "C" fn(Words, usize, i32, Words, usize, Out) -> u32,
     pub drop: unsafe extern "C" fn(Words, usize, u32, Out, Out) -> u32,
+    pub replace: unsafe extern "C" fn(Words, usize, u32, Out, Out) -> u32,
     pub position: unsafe extern "C" fn(Read, usize, Out, Out, Out) -> u32,
     pub visible: unsafe extern "C" fn(Read, usize, u32, Out, Out, Out) -> u32,
     pub lists: unsafe extern "C" fn(Read, usize, Words, usize, Words, usize, Out, Out) -> u32,
@@ -20,6 +21,7 @@ pub struct Face {
     pub outline: unsafe extern "C" fn(Read, usize, Words, usize, Out) -> u32,
     pub save: unsafe extern "C" fn(Read, usize, *mut u8, usize, Out) -> u32,
     pub load: unsafe extern "C" fn(Words, usize, *const u8, usize, Out) -> u32,
+    pub load_old: unsafe extern "C" fn(Words, usize, *const u8, usize, Out) -> u32,
     pub place_itself: unsafe extern "C" fn(Read, usize, *mut u64, usize, u32) -> u32,
     pub place_at: unsafe extern "C" fn(Read, usize, *mut u64, usize, u32, Point) -> u32,
     pub place: unsafe extern "C" fn(Read, usize, *const u64, usize, u32, Out, Real, Real) -> u32,
@@ -32,6 +34,7 @@ extern "C" {
     fn frame_history_navigate(words: Words, count: usize, from: u32, document: Out, hiding: Out) -> u32;
     fn frame_history_traverse(words: Words, count: usize, delta: i32, changes: Words, changes_count: usize, changed: Out) -> u32;
     fn frame_history_drop(words: Words, count: usize, frame: u32, removed: Out, hiding: Out) -> u32;
+    fn frame_history_replace(words: Words, count: usize, document: u32, replacement: Out, hiding: Out) -> u32;
     fn frame_history_position(words: Read, count: usize, position: Out, steps: Out, length: Out) -> u32;
     fn frame_history_visible(words: Read, count: usize, document: u32, answer: Out, hiding: Out, links: Out) -> u32;
     fn frame_history_lists(
@@ -48,6 +51,7 @@ extern "C" {
     fn frame_history_outline(words: Read, count: usize, pairs: Words, pairs_count: usize, written: Out) -> u32;
     fn frame_history_save(words: Read, count: usize, bytes: *mut u8, bytes_count: usize, length: Out) -> u32;
     fn frame_history_load(words: Words, count: usize, bytes: *const u8, bytes_count: usize, rows: Out) -> u32;
+    fn frame_history_load_old(words: Words, count: usize, bytes: *const u8, bytes_count: usize, rows: Out) -> u32;
     fn frame_history_place_itself(words: Read, count: usize, places: *mut u64, places_count: usize, document: u32) -> u32;
     fn frame_history_place_at(words: Read, count: usize, places: *mut u64, places_count: usize, document: u32, point: Point) -> u32;
     fn frame_history_place(words: Read, count: usize, places: *const u64, places_count: usize, document: u32, kind: Out, x: Real, y: Real) -> u32;
@@ -70,6 +74,7 @@ pub static OURS: Face = Face {
     navigate: frame_history_navigate,
     traverse: frame_history_traverse,
     drop: frame_history_drop,
+    replace: frame_history_replace,
     position: frame_history_position,
     visible: frame_history_visible,
     lists: frame_history_lists,
@@ -77,6 +82,7 @@ pub static OURS: Face = Face {
     outline: frame_history_outline,
     save: frame_history_save,
     load: frame_history_load,
+    load_old: frame_history_load_old,
     place_itself: frame_history_place_itself,
     place_at: frame_history_place_at,
     place: frame_history_place,
@@ -89,6 +95,7 @@ pub static TWIN: Face = Face {
     navigate: face::navigate,
     traverse: face::traverse,
     drop: face::drop,
+    replace: face::replace,
     position: face::position,
     visible: face::visible,
     lists: face::lists,
@@ -96,6 +103,7 @@ pub static TWIN: Face = Face {
     outline: face::outline,
     save: face::save,
     load: face::load,
+    load_old: face::load_old,
     place_itself: face::place_itself,
     place_at: face::place_at,
     place: face::place,

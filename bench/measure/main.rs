@@ -10,14 +10,14 @@ mod face;
 mod script;
 mod shapes;
 use cases::Case;
-use shapes::{SHAPES, Shape, record};
+use shapes::{SHAPES, Shape, record, replaced};
 use std::io::{BufWriter, stdout};
 use std::process::Command;
 
 const ROWS: [usize; 3] = [3, 30, 512];
 const RUNS: usize = 8;
 
-/// The targets: for every ratio, and for the passes of the shape desk, but of the calls with a store, whose test is of each pair of entries.
+/// The targets: for every ratio, and for the passes of the shape desk, but of those that have to look at rows more than a few times.
 const RATIO: f64 = 1.2;
 const PASSES: f64 = 3.0;
 
@@ -69,10 +69,13 @@ fn print_shape(shape: Shape, times: &mut impl Iterator<Item = f64>) {
     sizes[..2].iter().flatten().for_each(alike::check_near);
     ROWS[..2].iter().for_each(|&rows| alike::check_hidden(&record(shape, rows - 1, rows)));
     ROWS[..2].iter().for_each(|&rows| alike::check_stores(&record(shape, rows, rows)));
+    if shape == Shape::Desk {
+        ROWS[..2].iter().for_each(|&rows| alike::check_replaced(&replaced(rows, 10)));
+    }
     let pass = ROWS.map(|_| next());
     println!("{HEAD}");
     for case in &sizes[0] {
-        let most_passes = if shape == Shape::Desk && !case.call.has_store() { PASSES } else { f64::MAX };
+        let most_passes = if shape == Shape::Desk && !case.looks() { PASSES } else { f64::MAX };
         let [a, b, c] = ROWS.map(|_| (next(), next()));
         print!("| {} |", case.name);
         for (ours, twin) in [a, b, c] {

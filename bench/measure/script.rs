@@ -41,10 +41,15 @@ fn some_refused(lent: &mut Lent, random: &mut Random) -> u32 {
     if seen { u32::MAX } else { document }
 }
 
+/// The last visible document in the outline.
+fn last_visible(lent: &mut Lent) -> u32 {
+    let pairs = asked(lent, Call::Outline);
+    lent.first[2 * pairs as usize - 1]
+}
+
 /// The frame of the last visible document in the outline; the root frame where there is no other.
 fn last_frame(lent: &mut Lent) -> u32 {
-    let pairs = asked(lent, Call::Outline);
-    let document = lent.first[2 * pairs as usize - 1];
+    let document = last_visible(lent);
     let rows = lent.words[3..].as_chunks::<4>().0;
     rows.iter().find(|row| row[0] == document).expect("a row of the record")[1]
 }
@@ -56,7 +61,7 @@ pub fn write(lines: usize, out: &mut impl Write) -> std::io::Result<()> {
     let lent = &mut Lent::new(vec![0; 3 + 4 * 512]);
     asked(lent, Call::Fresh);
     for line in 0..lines {
-        let (name, call) = match (asked(lent, Call::Position), random.below(21)) {
+        let (name, call) = match (asked(lent, Call::Position), random.below(22)) {
             (0, _) => ("nav", Call::Navigate(0)),
             (position, _) if line % 100 == 0 => ("go", Call::Traverse(-(position as i32))),
             (_, 0..=5) => ("nav", Call::Navigate(some_visible(lent, &mut random))),
@@ -65,11 +70,12 @@ pub fn write(lines: usize, out: &mut impl Write) -> std::io::Result<()> {
             (_, 14..=17) => ("go", Call::Traverse(1)),
             (_, 18) => ("nav", Call::Navigate(some_refused(lent, &mut random))),
             (_, 19) => ("drop", Call::Drop(last_frame(lent))),
+            (_, 20) => ("replace", Call::Replace(last_visible(lent))),
             _ => ("back", Call::Position),
         };
         make(&OURS, call, lent);
         match call {
-            Call::Navigate(number) | Call::Open(number) | Call::Drop(number) => writeln!(out, "{name} {number}")?,
+            Call::Navigate(number) | Call::Open(number) | Call::Drop(number) | Call::Replace(number) => writeln!(out, "{name} {number}")?,
             Call::Traverse(delta) => writeln!(out, "{name} {delta}")?,
             _ => writeln!(out, "{name}")?,
         }

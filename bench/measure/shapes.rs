@@ -60,6 +60,25 @@ pub fn nested(rows: usize) -> Vec<u32> {
     lent.words
 }
 
+/// A desk of which so many documents were replaced: the second row's, and others spread over the steps, the earlier before the later. The clerk went back
+/// to each, and then forward to the end. With fewer steps than that some are replaced more than once.
+pub fn replaced(rows: usize, count: usize) -> Vec<u32> {
+    let mut lent = Lent::new(called(Shape::Desk, rows, rows));
+    let steps = accepted(Call::Position, &mut lent) as usize;
+    let mut here = steps;
+    let mut go = |lent: &mut Lent, to: usize| {
+        accepted(Call::Traverse(to as i32 - here as i32), lent);
+        here = to;
+    };
+    for turn in 0..count {
+        go(&mut lent, turn * steps / count);
+        let document = if accepted(Call::Lists, &mut lent) > 0 { lent.first[0] } else { lent.words[7] };
+        accepted(Call::Replace(document), &mut lent);
+    }
+    go(&mut lent, steps);
+    lent.words
+}
+
 /// The record that the test of soundness takes longest for, word by word.
 fn worst(rows: usize, room: usize) -> Vec<u32> {
     let mut words = vec![0; 3 + 4 * room];

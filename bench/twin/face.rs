@@ -1,7 +1,7 @@
 //! The calls as a host in C would call them, so that both libraries are measured through the same face: see include/frame_history.h.
 use crate::places::{self, Place};
 use crate::record::{NONE, Refusal};
-use crate::{asks, moves, outline, saved, traverse};
+use crate::{asks, moves, old, outline, saved, traverse};
 use std::slice::{from_raw_parts as lent, from_raw_parts_mut as lent_mut};
 
 /// Hands over the values of an accepted call and answers 0, or answers the refusal's number.
@@ -46,6 +46,11 @@ pub unsafe extern "C" fn traverse(words: *mut u32, count: usize, delta: i32, cha
 /// Takes a frame out: how many rows went.
 pub unsafe extern "C" fn drop(words: *mut u32, count: usize, frame: u32, removed: &mut u32, hiding: &mut u32) -> u32 {
     answer_hiding(moves::drop_frame(lent_mut(words, count), frame), hiding, |n| *removed = n as u32)
+}
+
+/// Replaces a document in its own row: the new document.
+pub unsafe extern "C" fn replace(words: *mut u32, count: usize, document: u32, replacement: &mut u32, hiding: &mut u32) -> u32 {
+    answer_hiding(moves::replace(lent_mut(words, count), document), hiding, |number| *replacement = number)
 }
 
 /// Position, steps, and the length for scripts.
@@ -99,6 +104,11 @@ pub unsafe extern "C" fn save(words: *const u32, count: usize, bytes: *mut u8, b
 /// A record from its saved form: how many rows.
 pub unsafe extern "C" fn load(words: *mut u32, count: usize, bytes: *const u8, bytes_count: usize, rows: &mut u32) -> u32 {
     answer(saved::load(lent_mut(words, count), lent(bytes, bytes_count)), |n| *rows = n as u32)
+}
+
+/// A record from the old form: how many rows.
+pub unsafe extern "C" fn load_old(words: *mut u32, count: usize, bytes: *const u8, bytes_count: usize, rows: &mut u32) -> u32 {
+    answer(old::load(lent_mut(words, count), lent(bytes, bytes_count)), |n| *rows = n as u32)
 }
 
 /// A point in CSS pixels.

@@ -2,6 +2,7 @@
 mod asks;
 pub mod face;
 mod moves;
+mod old;
 mod outline;
 mod places;
 pub mod record;

@@ -1,5 +1,5 @@
-//! Fresh, Open, Navigate and Drop.
-use crate::record::{FRAME, NONE, PARENT, Refusal, Row, SHOWN, capacity, examine, find, hider, locate, room_mut};
+//! Fresh, Open, Navigate, Drop and Replace.
+use crate::record::{DOCUMENT, FRAME, NONE, PARENT, Refusal, Row, SHOWN, capacity, examine, find, hider, locate, room_mut};
 
 /// The record of a new window.
 pub fn fresh(words: &mut [u32]) -> Result<(), Refusal> {
@@ -13,10 +13,10 @@ pub fn fresh(words: &mut [u32]) -> Result<(), Refusal> {
     Ok(())
 }
 
-/// Refusals 4 and 5.
-fn judge_visible(rows: &[Row], document: u32) -> Result<(), Refusal> {
+/// Refusals 4 and 5, or the document's row.
+fn judge_visible(rows: &[Row], document: u32) -> Result<usize, Refusal> {
     let at = find(rows, document).ok_or(Refusal::Absent)?;
-    hider(rows, at).map_or(Ok(()), |document| Err(Refusal::Hidden(document)))
+    hider(rows, at).map_or(Ok(at), |document| Err(Refusal::Hidden(document)))
 }
 
 /// Opens a frame: the new document and its frame.
@@ -75,14 +75,13 @@ pub fn navigate(words: &mut [u32], from: u32) -> Result<u32, Refusal> {
     Ok(document)
 }
 
-/// Moves down every row that is neither of the frame, whose first row is at `start`, nor beneath it; how many rows stay. The parents last found
-/// among the rows that stay and last missed there need no search.
-fn close_frame(rows: &mut [Row], start: usize) -> usize {
-    let [mut gone, frame, mut known, _] = rows[start];
+/// Moves down every row from `start` on that neither goes by itself nor is beneath one that went; how many rows stay. The parents last found
+/// among the rows that stay and last missed there need no search: one of each is given.
+fn close_over(rows: &mut [Row], start: usize, mut known: u32, mut gone: u32, goes: impl Fn(&Row) -> bool) -> usize {
     let mut kept = start;
-    for at in start + 1..rows.len() {
+    for at in start..rows.len() {
         let row = rows[at];
-        if row[FRAME] == frame || row[PARENT] == gone {
+        if goes(&row) || row[PARENT] == gone {
             continue;
         }
         if row[PARENT] != known {
@@ -109,8 +108,26 @@ pub fn drop_frame(words: &mut [u32], frame: u32) -> Result<usize, Refusal> {
     }
     judge_visible(&rows[..start], parent)?;
     let rows = &mut room_mut(words)[..count];
-    let kept = close_frame(rows, start);
+    let first = rows[start][DOCUMENT];
+    let kept = close_over(rows, start, parent, first, |row| row[FRAME] == frame);
     rows[kept..].fill([0; 4]);
     words[0] = kept as u32;
     Ok(count - kept)
+}
+
+/// Replaces a document in its own row: the new document.
+pub fn replace(words: &mut [u32], document: u32) -> Result<u32, Refusal> {
+    let rows = examine(words)?;
+    let count = rows.len();
+    let at = judge_visible(rows, document)?;
+    let next = words[1];
+    if next == NONE {
+        return Err(Refusal::UsedUp);
+    }
+    let rows = &mut room_mut(words)[..count];
+    let kept = close_over(rows, at + 1, document, next, |row| row[PARENT] == document);
+    rows[at][DOCUMENT] = next;
+    rows[kept..].fill([0; 4]);
+    words[..2].copy_from_slice(&[kept as u32, next + 1]);
+    Ok(next)
 }

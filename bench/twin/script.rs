@@ -7,6 +7,7 @@ enum Command {
     Nav(u32),
     Go(i32),
     Drop(u32),
+    Replace(u32),
 }
 
 /// The number that decimal digits without leading zeros spell, up to `top`.
@@ -40,6 +41,9 @@ fn parse(line: &[u8]) -> Option<Command> {
     }
     if let Some(text) = line.strip_prefix(b"drop ") {
         return Some(Command::Drop(numeral(text, u32::MAX)?));
+    }
+    if let Some(text) = line.strip_prefix(b"replace ") {
+        return Some(Command::Replace(numeral(text, u32::MAX)?));
     }
     let text = line.strip_prefix(b"go ")?;
     match text.strip_prefix(b"-") {
@@ -80,6 +84,7 @@ impl Window {
             Command::Nav(from) => Ok(moves::navigate(&mut self.words, from)? as usize),
             Command::Go(delta) => traverse::traverse(&mut self.words, delta, &mut self.changes),
             Command::Drop(frame) => moves::drop_frame(&mut self.words, frame),
+            Command::Replace(document) => Ok(moves::replace(&mut self.words, document)? as usize),
         }
     }
 

@@ -31,6 +31,7 @@ u32 frame_history_navigate(u32 *words, usize n, u32 from, u32 *document, u32 *hi
 u32 frame_history_traverse(u32 *words, usize n, i32 delta, u32 *changes, usize changes_n, u32 *count);
 u32 frame_history_traverse_rows(u32 *words, usize n, i32 delta, row *rows, usize rows_n, u32 *count);
 u32 frame_history_drop(u32 *words, usize n, u32 frame, u32 *removed, u32 *hiding);
+u32 frame_history_replace(u32 *words, usize n, u32 document, u32 *replacement, u32 *hiding);
 u32 frame_history_position(const u32 *words, usize n, u32 *position, u32 *steps, u32 *length);
 u32 frame_history_visible(const u32 *words, usize n, u32 document, u32 *answer, u32 *hiding, u32 *links);
 u32 frame_history_lists(const u32 *words, usize n, u32 *taken, usize taken_n, u32 *upcoming, usize upcoming_n, u32 *taken_count, u32 *upcoming_count);
@@ -38,12 +39,16 @@ u32 frame_history_stretch(const u32 *taken, usize taken_n, const u32 *upcoming, 
 u32 frame_history_outline(const u32 *words, usize n, u32 *pairs, usize pairs_n, u32 *count);
 u32 frame_history_save(const u32 *words, usize n, u8 *bytes, usize bytes_n, u32 *length);
 u32 frame_history_load(u32 *words, usize n, const u8 *bytes, usize bytes_n, u32 *rows);
+u32 frame_history_load_old(u32 *words, usize n, const u8 *bytes, usize bytes_n, u32 *rows);
 u32 frame_history_place_itself(const u32 *words, usize n, u64 *places, usize places_n, u32 document);
 u32 frame_history_place_at(const u32 *words, usize n, u64 *places, usize places_n, u32 document, point at);
 u32 frame_history_place(const u32 *words, usize n, const u64 *places, usize places_n, u32 document, u32 *kind, double *x, double *y);
 u32 frame_history_place_at_zoom(const u32 *words, usize n, const u64 *places, usize places_n, u32 document, double zoom, u32 *kind, double *x, double *y);
 
-enum { FRESH, OPEN, NAVIGATE, TRAVERSE, DROP, POSITION, VISIBLE, LISTS, STRETCH, OUTLINE, SAVE, LOAD, PLACE_ITSELF, PLACE_AT, PLACE, PLACE_AT_ZOOM, NO_CALL = 99 };
+enum {
+  FRESH, OPEN, NAVIGATE, TRAVERSE, DROP, REPLACE, POSITION, VISIBLE, LISTS, STRETCH, OUTLINE, SAVE, LOAD, LOAD_OLD, PLACE_ITSELF, PLACE_AT, PLACE,
+  PLACE_AT_ZOOM, NO_CALL = 99
+};
 enum { WORDS, FIRST, SECOND, PLACES, BYTES, RUNS };
 enum { HEAD = 20, PAGE = 65536, AREA = 2 * PAGE, GUARD = 64 };
 
@@ -156,6 +161,7 @@ static u32 call(const u32 *head, u8 **run) {
     if (head[3] & 1) return frame_history_traverse_rows(words, n, (i32)number, (row *)first, first_n / 4, a);
     return frame_history_traverse(words, n, (i32)number, first, first_n, a);
   case DROP: return frame_history_drop(words, n, number, a, b);
+  case REPLACE: return frame_history_replace(words, n, number, a, b);
   case POSITION: return frame_history_position(words, n, a, b, c);
   case VISIBLE: return frame_history_visible(words, n, number, a, b, c);
   case LISTS: return frame_history_lists(words, n, first, first_n, second, second_n, a, b);
@@ -163,6 +169,7 @@ static u32 call(const u32 *head, u8 **run) {
   case OUTLINE: return frame_history_outline(words, n, first, first_n, a);
   case SAVE: return frame_history_save(words, n, bytes, bytes_n, a);
   case LOAD: return frame_history_load(words, n, bytes, bytes_n, a);
+  case LOAD_OLD: return frame_history_load_old(words, n, bytes, bytes_n, a);
   case PLACE_ITSELF: return frame_history_place_itself(words, n, places, places_n, number);
   case PLACE_AT: return frame_history_place_at(words, n, places, places_n, number, (point){given[0].value, given[1].value});
   case PLACE: return frame_history_place(words, n, places, places_n, number, a, x, y);

@@ -15,7 +15,7 @@ void exit(int);
 void *mmap(void *, size_t, int, int, int, long);
 int mprotect(void *, size_t, int);
 
-enum { ROWS = 512, WORDS = 3 + 4 * ROWS, BYTES = 12 + 20 * ROWS, PAGE = 65536, STACK = 2 * PAGE, MORE = PAGE / 4 };
+enum { ROWS = 512, WORDS = 3 + 4 * ROWS, BYTES = 12 + 24 * ROWS, PAGE = 65536, STACK = 2 * PAGE, MORE = PAGE / 4 };
 static const uint32_t NONE = 4294967295u;
 
 /* What is lent to a call: the number, the record, runs that are long enough for every answer, the out words; a store of places, with
@@ -39,6 +39,7 @@ static uint32_t fresh(lent *l) { return frame_history_fresh(l->words, l->n); }
 static uint32_t open(lent *l) { return frame_history_open(l->words, l->n, l->number, l->outs, l->outs + 1, l->outs + 2); }
 static uint32_t navigate(lent *l) { return frame_history_navigate(l->words, l->n, l->number, l->outs, l->outs + 1); }
 static uint32_t drop(lent *l) { return frame_history_drop(l->words, l->n, l->number, l->outs, l->outs + 1); }
+static uint32_t replace(lent *l) { return frame_history_replace(l->words, l->n, l->number, l->outs, l->outs + 1); }
 static uint32_t traverse(lent *l) {
   return frame_history_traverse(l->words, l->n, (int32_t)l->number, l->first, l->first_n, l->outs);
 }
@@ -56,6 +57,7 @@ static uint32_t stretch(lent *l) {
 static uint32_t outline(lent *l) { return frame_history_outline(l->words, l->n, l->first, l->first_n, l->outs); }
 static uint32_t save(lent *l) { return frame_history_save(l->words, l->n, l->bytes, l->bytes_n, l->outs); }
 static uint32_t load(lent *l) { return frame_history_load(l->words, l->n, l->bytes, l->bytes_n, l->outs); }
+static uint32_t load_old(lent *l) { return frame_history_load_old(l->words, l->n, l->bytes, l->bytes_n, l->outs); }
 static uint32_t place_itself(lent *l) {
   return frame_history_place_itself(l->words, l->n, (uint64_t *)l->places, 4 * l->entries, l->number);
 }
@@ -76,6 +78,7 @@ static const struct { const char *name; made *make; int begins; size_t bound, le
   {"open", open, 2, FRAME_HISTORY_STACK, 0, "saved registers, what the test found, a few numbers; beneath them the test"},
   {"navigate", navigate, 2, FRAME_HISTORY_STACK, 0, "as open"},
   {"drop", drop, 2, FRAME_HISTORY_STACK, 0, "as open"},
+  {"replace", replace, 2, FRAME_HISTORY_STACK, 0, "as open"},
   {"traverse", traverse, 2, FRAME_HISTORY_STACK, 0, "as open, once more for the part that both calls that traverse share"},
   {"traverse_rows", traverse_rows, 2, FRAME_HISTORY_STACK, 0, "as traverse"},
   {"position", position, 2, FRAME_HISTORY_STACK, 0, "as open"},
@@ -85,9 +88,11 @@ static const struct { const char *name; made *make; int begins; size_t bound, le
   {"outline", outline, 2, FRAME_HISTORY_OUTLINE_STACK, FRAME_HISTORY_OUTLINE_LEVEL,
    "as open; and for each level a return address, saved registers and where it stands among a document's frames, since the outline of a "
    "document calls that of its frames (document 01)"},
-  {"save", save, 2, FRAME_HISTORY_STACK, 0, "as open"},
+  {"save", save, 2, FRAME_HISTORY_SAVE_STACK, 0,
+   "as open, and two lists of 512 numbers, in which the rows of a record with many frames are put in their order"},
   {"load", load, 1, FRAME_HISTORY_LOAD_STACK, 0,
    "a record of 2051 words, 8204 bytes, since the host's words are written only once the bytes are known to be Save's"},
+  {"load_old", load_old, 1, FRAME_HISTORY_LOAD_STACK, 0, "as load"},
   {"place_itself", place_itself, 2, FRAME_HISTORY_STACK, 0, "as open, once more for the part that both calls that set a place share"},
   {"place_at", place_at, 2, FRAME_HISTORY_STACK, 0, "as place_itself"},
   {"place", place, 2, FRAME_HISTORY_STACK, 0, "as open, with the place before it is told, and two of its eight arguments"},
@@ -220,9 +225,18 @@ static void build_shape(lent *l, int shape, size_t rows) {
 }
 
 /* What becomes of a shape: with a row left; with all rows in use; with a navigation from its last document, or from its root's, for the
-   last row; the former gone all the way back; with a row left and no number. */
-enum { SPARE, FULL, STEPPED, HIDDEN, BACK, USED_UP, STATES };
-static const char *const states[] = {"a row left", "full", "a step last", "its root navigated", "all steps upcoming", "no number left"};
+   last row; the former gone all the way back; with a row left and no number; with a row left and numbers that do not rise. */
+enum { SPARE, FULL, STEPPED, HIDDEN, BACK, USED_UP, MIXED, STATES };
+static const char *const states[] = {"a row left", "full", "a step last", "its root navigated", "all steps upcoming", "no number left", "numbers mixed"};
+
+/* The documents 0 to n - 1 of a record in another order, so that the test of a record has to look for most of them among the later ones. */
+static void mix(lent *l) {
+  uint32_t n = l->words[0];
+  for (size_t i = 0; i < n; i++) {
+    row(l, i)[0] = (5 * row(l, i)[0] + 3) % n;
+    if (row(l, i)[2] != NONE) row(l, i)[2] = (5 * row(l, i)[2] + 3) % n;
+  }
+}
 
 static void build_state(lent *l, int shape, int state) {
   l->state = states[state];
@@ -231,6 +245,7 @@ static void build_state(lent *l, int shape, int state) {
   if (state == HIDDEN) build(navigate, l, row(l, 0)[0]);
   if (state == BACK) build(traverse, l, -build(position, l, 0));
   if (state == USED_UP) l->words[1] = l->words[2] = NONE;
+  if (state == MIXED) mix(l);
 }
 
 /* How many levels of documents are visible, by the outline. */
@@ -243,7 +258,7 @@ static void count_levels(lent *l) {
 /* Open and Navigate from the last document, Navigate from the second where all steps are upcoming, and both from a document that is hidden
    at the end of the longest climb. */
 static void on_growing(lent *l, int state) {
-  static const uint32_t answers[] = {0, FRAME_HISTORY_FULL, FRAME_HISTORY_FULL, FRAME_HISTORY_FULL, FRAME_HISTORY_HIDDEN, FRAME_HISTORY_USED_UP};
+  static const uint32_t answers[] = {0, FRAME_HISTORY_FULL, FRAME_HISTORY_FULL, FRAME_HISTORY_FULL, FRAME_HISTORY_HIDDEN, FRAME_HISTORY_USED_UP, 0};
   made *const grow[] = {open, navigate};
   for (int g = 0; g < 2; g++) {
     try(grow[g], l, last(l)[0], answers[state]);
@@ -261,6 +276,17 @@ static void on_drop(lent *l, int state) {
   if (l->words[0] == 1) return;
   try(drop, l, row(l, 1)[1], answer);
   try(drop, l, last(l)[state == HIDDEN ? -3 : 1], answer);
+}
+
+/* Replace of the last document and of the root's, of one that is not there, of the second where all steps are upcoming, and of one that is
+   hidden at the end of the longest climb. */
+static void on_replace(lent *l, int state) {
+  uint32_t answer = state == USED_UP ? FRAME_HISTORY_USED_UP : 0;
+  try(replace, l, last(l)[0], state == BACK ? FRAME_HISTORY_HIDDEN : answer);
+  try(replace, l, row(l, 0)[0], state == HIDDEN ? FRAME_HISTORY_HIDDEN : answer);
+  try(replace, l, l->words[1], FRAME_HISTORY_ABSENT);
+  if (state == BACK) try(replace, l, row(l, 1)[0], 0);
+  if (state == HIDDEN) try(replace, l, last(l)[-4], FRAME_HISTORY_HIDDEN);
 }
 
 /* Both calls that traverse: not at all, one step and all steps either way, a step too far, the least number, and with no room. */
@@ -328,36 +354,58 @@ static void on_writing(lent *l) {
 static void put(uint8_t *bytes, uint32_t v) { for (int i = 0; i < 4; i++) bytes[i] = (uint8_t)(v >> (24 - 8 * i)); }
 static uint32_t get(const uint8_t *b) { return (uint32_t)b[0] << 24 | (uint32_t)b[1] << 16 | (uint32_t)b[2] << 8 | b[3]; }
 
-/* Load of saved bytes with a number changed. */
-static void on_changed(lent *l, size_t at, uint32_t v) {
+/* A loading call on bytes with a number changed. */
+static void on_changed(made *loads, lent *l, size_t at, uint32_t v) {
   uint32_t was = get(l->bytes + at);
   put(l->bytes + at, v);
-  try(load, l, 0, FRAME_HISTORY_NOT_SAVED);
+  try(loads, l, 0, FRAME_HISTORY_NOT_SAVED);
   put(l->bytes + at, was);
 }
 
-/* Load of what Save writes; of the same bytes cut, longer, empty, with each number of the head, of the last frame and of the last document
-   changed; and into a record with room for one row. */
-static void on_load(lent *l) {
-  size_t length = l->bytes_n = build(save, l, 0), frame = 16 * get(l->bytes) - 4, docs = get(l->bytes + frame + 8);
-  try(load, l, 0, 0);
-  on_changed(l, 0, get(l->bytes) + 1);
-  on_changed(l, 4, 0);
-  on_changed(l, 8, 0);
-  on_changed(l, frame, NONE);
-  on_changed(l, frame + 4, NONE - 1);
-  on_changed(l, frame + 8, (uint32_t)docs + 1);
-  on_changed(l, frame + 12, (uint32_t)docs);
-  on_changed(l, length - 4, NONE);
+/* The loading call of a form on its bytes, of this length and with entries of so many: whole; cut, longer, empty; with each number of the head,
+   of the last frame and of the last entry changed; and into a record with room for one row. */
+static void on_bytes(made *loads, lent *l, size_t length, size_t entry) {
+  size_t frame = 16 * get(l->bytes) - 4, docs = get(l->bytes + frame + 8);
+  l->bytes_n = length;
+  try(loads, l, 0, 0);
+  on_changed(loads, l, 0, get(l->bytes) + 1);
+  on_changed(loads, l, 4, 0);
+  on_changed(loads, l, 8, 0);
+  on_changed(loads, l, frame, NONE);
+  on_changed(loads, l, frame + 4, NONE - 1);
+  on_changed(loads, l, frame + 8, (uint32_t)docs + 1);
+  on_changed(loads, l, frame + 12, (uint32_t)docs);
+  on_changed(loads, l, length - entry, NONE);
+  on_changed(loads, l, length - 4, NONE);
   const size_t lengths[] = {0, length - 1, length + 1};
   for (int i = 0; i < 3; i++) {
     l->bytes_n = lengths[i] < BYTES ? lengths[i] : 0;
-    try(load, l, 0, FRAME_HISTORY_NOT_SAVED);
+    try(loads, l, 0, FRAME_HISTORY_NOT_SAVED);
   }
   l->bytes_n = length;
   l->n = 7;
-  try(load, l, 0, l->words[0] > 1 ? FRAME_HISTORY_FULL : 0);
+  try(loads, l, 0, l->words[0] > 1 ? FRAME_HISTORY_FULL : 0);
   l->n = WORDS;
+}
+
+/* The bytes that Save wrote in the old form, which has no row places; their length. */
+static size_t to_old(lent *l) {
+  uint8_t *bodies = l->bytes + 12 + 16 * get(l->bytes);
+  for (size_t i = 0; i < l->words[0]; i++) put(bodies + 4 * i, get(bodies + 8 * i));
+  return (size_t)(bodies - l->bytes) + 4 * l->words[0];
+}
+
+/* Both loading calls: Load on what Save writes, with a place twice too; the other on the same bytes, and on those of the old form, which only records
+   have whose numbers rise. */
+static void on_load(lent *l, int state) {
+  size_t length = build(save, l, 0), bodies = 12 + 16 * get(l->bytes);
+  on_bytes(load, l, length, 8);
+  on_changed(load, l, bodies + 4, 1);
+  try(load_old, l, 0, FRAME_HISTORY_NOT_SAVED);
+  length = to_old(l);
+  if (state != MIXED) on_bytes(load_old, l, length, 4);
+  l->bytes_n = length;
+  try(load, l, 0, FRAME_HISTORY_NOT_SAVED);
   l->bytes_n = BYTES;
 }
 
@@ -415,11 +463,12 @@ static void on_sound(lent *l, int state) {
   try(fresh, l, 0, 0);
   on_growing(l, state);
   on_drop(l, state);
+  on_replace(l, state);
   on_traverse(l);
   on_asking(l);
   on_lists(l);
   on_writing(l);
-  on_load(l);
+  on_load(l, state);
   on_places(l);
 }
 
@@ -474,7 +523,7 @@ int main(void) {
     for (int state = 0; state < STATES; state++) {
       build_state(&l, shape, state);
       on_sound(&l, state);
-      if (state == SPARE || state == FULL || state == BACK) on_damaged(&l);
+      if (state == SPARE || state == FULL || state == BACK || state == MIXED) on_damaged(&l);
     }
   l.shape = "fresh";
   l.state = "room for 512 rows";

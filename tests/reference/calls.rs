@@ -2,7 +2,7 @@
 //! smallest number. An error is the refusal; then nothing lent was written.
 use crate::history::History;
 use crate::record::{capacity, rows, write, Row, FEWEST_WORDS, NONE};
-use crate::saved::{bytes_of, record_of};
+use crate::saved::{bytes_of, old_record_of, record_of};
 use crate::sound::is_sound;
 
 /// A refusal's number; and "refusal 5 [..] carries that number too", of the document that hides the one asked for.
@@ -135,6 +135,22 @@ pub fn drop_frame(words: &mut [u32], frame: u32) -> Answer<u32> {
     Ok((before - history.documents.len()) as u32)
 }
 
+/// "replacing a visible document in its own row". Answers the new document number.
+pub fn replace(words: &mut [u32], document: u32) -> Answer<u32> {
+    let mut history = examined(words)?;
+    visible_place(&history, document)?;
+    let (new, next_frame) = (words[1], words[2]);
+    refuse_when(8, new == NONE)?;
+    // "everything beneath it goes": its children, with what is beneath these. Every other document stays, upcoming ones too.
+    let children: Vec<usize> = (0..history.documents.len()).filter(|&d| history.documents[d].parent == Some(document)).collect();
+    history.delete(&children);
+    // "the row takes the next document number, stays shown"
+    let place = history.place(document).expect("a document is not beneath itself");
+    history.documents[place].number = new;
+    write(words, new + 1, next_frame, &history.rows());
+    Ok(new)
+}
+
 /// Position and steps of a history.
 fn standing(history: &History) -> (u32, u32) {
     let steps = (0..history.documents.len()).filter(|&d| history.can_go_back(d)).count();
@@ -226,6 +242,15 @@ pub fn save(words: &[u32], bytes: &mut [u8]) -> Answer<u32> {
 
 /// Answers the number of rows.
 pub fn load(words: &mut [u32], bytes: &[u8]) -> Answer<u32> {
+    load_by(record_of, words, bytes)
+}
+
+/// "The old form has its own loading call."
+pub fn load_old(words: &mut [u32], bytes: &[u8]) -> Answer<u32> {
+    load_by(old_record_of, words, bytes)
+}
+
+fn load_by(record_of: fn(&[u8]) -> Option<Vec<u32>>, words: &mut [u32], bytes: &[u8]) -> Answer<u32> {
     refuse_when(1, words.len() < FEWEST_WORDS)?;
     let record = record_of(bytes).ok_or(3u32)?;
     refuse_when(7, record[0] as usize > capacity(words.len()))?;

@@ -4,6 +4,7 @@ use crate::doubles::{product, Double};
 use crate::history::History;
 use crate::places::{place, place_at, place_at_zoom, place_itself, Place, FREE};
 use crate::record::{rows, NONE};
+use crate::saved::old_bytes_of;
 use crate::script;
 use crate::sound::{broken, is_sound};
 use std::fmt::Debug;
@@ -75,10 +76,13 @@ pub fn check_all() -> u32 {
     small_examples(&mut checks);
     drop_examples(&mut checks);
     hiding_examples(&mut checks);
+    replace_examples(&mut checks);
     place_examples(&mut checks);
     freeing_examples(&mut checks);
     zoom_examples(&mut checks);
     saved_examples(&mut checks);
+    replaced_saved_examples(&mut checks);
+    old_saved_examples(&mut checks);
     sound_clauses(&mut checks);
     script_examples(&mut checks);
     checks.held
@@ -284,6 +288,96 @@ fn hiding_examples(c: &mut Checks) {
     c.same("full, and visible", open(&mut nested.clone(), 4), no(7));
 }
 
+/// L7: "A login page should vanish from Back": "everything beneath it goes, the row takes the next document number, stays shown, and upcoming
+/// steps elsewhere stay".
+fn replace_examples(c: &mut Checks) {
+    let x = record_x();
+    let after = |document: u32, mut words: Vec<u32>| {
+        let new = replace(&mut words, document);
+        (new, words)
+    };
+    let (root, list, third, later) = ([0, 0, NONE, 1], [1, 1, 0, 1], [3, 3, 0, 1], [5, 1, 0, 0]);
+
+    let (new, mut login) = after(0, fresh_record(4));
+    c.same("the login page gives way", new, Ok(1));
+    c.same("in its own row", login.clone(), record(4, 2, 1, &[[1, 0, NONE, 1]]));
+    c.same("no step", position(&login), Ok((0, 0, 1)));
+    c.same("back: nothing is there", go(&mut login, -1), no(6));
+    c.same("the login page is gone", visible(&login, 0), no(4));
+    c.same("a link", navigate(&mut login, 1), Ok(2));
+    c.same("back is where the login page was", go(&mut login, -1), Ok(vec![0, 2, 1, 1]));
+
+    let (new, mut words) = after(1, x.clone());
+    c.same("X replace 1: 2 and 4 beneath it go", new, Ok(6));
+    c.same("X replace 1 words", words.clone(), record(8, 7, 4, &[root, [6, 1, 0, 1], third, later]));
+    c.same("X replace 1: position falls by 4, and 5 stays upcoming in its frame", position(&words), Ok((0, 1, 2)));
+    c.same("X replace 1 visible", visible_documents(&words), vec![0, 6, 3]);
+    c.same("X replace 1: a new number beneath earlier ones is sound", is_sound(&words), true);
+    c.same("X replace 1 and forward", go(&mut words, 1), Ok(vec![1, 6, 5, 1]));
+    c.same("X replace 1, forward and back", go(&mut words, -1), Ok(vec![1, 5, 6, 1]));
+
+    let (new, mut words) = after(3, x.clone());
+    let (second, fourth) = ([2, 2, 1, 0], [4, 2, 1, 1]);
+    c.same("X replace 3", new, Ok(6));
+    c.same("X replace 3 words", words.clone(), record(8, 7, 4, &[root, list, second, [6, 3, 0, 1], fourth, later]));
+    c.same("X replace 3: a step taken and one upcoming in other frames stay", position(&words), Ok((1, 2, 3)));
+    c.same("X replace 3 once more", replace(&mut words, 6), Ok(7));
+    c.same("X replace 3 twice words", words.clone(), record(8, 8, 4, &[root, list, second, [7, 3, 0, 1], fourth, later]));
+    c.same("the one between is gone", replace(&mut words, 6), no(4));
+    let (mut taken, mut upcoming) = ([0; 1], [0; 1]);
+    c.same("X replace 3 twice lists", lists(&words, &mut taken, &mut upcoming), Ok((1, 1)));
+    c.same("X replace 3 twice steps", (taken, upcoming), ([4], [5]));
+    let mut pairs = [0; 8];
+    c.same("X replace 3 twice outline", outline(&words, &mut pairs), Ok(4));
+    c.same("by frames, whatever the numbers", pairs, [0, 0, 1, 1, 2, 4, 1, 7]);
+    c.same("X replace 3 twice and forward", go(&mut words, 1), Ok(vec![1, 1, 5, 1]));
+    c.same("open under what replaced it", open(&mut words, 7), Ok((8, 4)));
+
+    let (new, words) = after(4, x.clone());
+    c.same("X replace 4, which is a step taken", new, Ok(6));
+    c.same("X replace 4 words", words.clone(), record(8, 7, 4, &[root, list, second, third, [6, 2, 1, 1], later]));
+    c.same("X replace 4: the step stays one", position(&words), Ok((1, 2, 3)));
+
+    let (new, words) = after(0, x.clone());
+    c.same("X replace 0: all the others are beneath it", new, Ok(6));
+    c.same("X replace 0 words: the frame numbers do not come back", words, record(8, 7, 4, &[[6, 0, NONE, 1]]));
+
+    let mut p10 = fresh_record(4);
+    open(&mut p10, 0).and(navigate(&mut p10, 0)).and(open(&mut p10, 2)).and(go(&mut p10, -1)).unwrap();
+    let (new, mut words) = after(0, p10.clone());
+    c.same("P10 replace 0: 1 goes; 2, upcoming in its own frame, stays with 3 beneath it", new, Ok(4));
+    c.same("P10 replace 0 words", words.clone(), record(4, 5, 3, &[[4, 0, NONE, 1], [2, 0, NONE, 0], [3, 2, 2, 1]]));
+    c.same("P10 replace 0 and forward", go(&mut words, 1), Ok(vec![0, 4, 2, 1]));
+    c.same("P10 replace 0 and forward visible", visible_documents(&words), vec![2, 3]);
+    c.same("P10 replace 0, forward: 4 is not visible now", replace(&mut words, 4), hidden_by(4));
+    c.same("a full table has room for a replacement", after(1, p10).0, Ok(4));
+
+    let mut forward = x.clone();
+    go(&mut forward, 1).unwrap();
+    let mut used_up = x.clone();
+    used_up[1] = NONE;
+    let (mut last, mut frames_used) = (x.clone(), x.clone());
+    last[1] = NONE - 1;
+    frames_used[2] = NONE;
+    for (name, document, words, refusal) in [
+        ("X replace 2, hidden by itself", 2, &x, hidden_by(2)),
+        ("X replace 5, an upcoming step", 5, &x, hidden_by(5)),
+        ("X by +1, replace 4: 1 hides it", 4, &forward, hidden_by(1)),
+        ("X replace 9", 9, &x, no(4)),
+        ("X replace 6, the next number", 6, &x, no(4)),
+        ("X replace 4294967295", NONE, &x, no(4)),
+        ("no number left", 1, &used_up, no(8)),
+        ("5 before 8", 2, &used_up, hidden_by(2)),
+        ("4 before 8", 9, &used_up, no(4)),
+    ] {
+        c.same(name, after(document, words.clone()), (refusal, words.clone()));
+    }
+    c.same("the last number", after(1, last).0, Ok(NONE - 1));
+    c.same("no frame number is needed", after(1, frames_used).0, Ok(6));
+    c.same("six words", replace(&mut [9; 6], 0), no(1));
+    c.same("X with a row too many", replace(&mut [&[7], &x[1..]].concat(), 0), no(2));
+}
+
 /// A NaN with a payload, as a host may leave it in an entry that is free or of kind 0.
 const ODD: u64 = 0x7ff0_0000_dead_beef;
 
@@ -422,28 +516,133 @@ fn zoom_examples(c: &mut Checks) {
     }
 }
 
+fn to_bytes(numbers: &[u32]) -> Vec<u8> {
+    numbers.iter().flat_map(|number| number.to_be_bytes()).collect()
+}
+
+/// What Save writes, in more room than that takes.
+fn saved(words: &[u32]) -> Vec<u8> {
+    let mut bytes = vec![0xee; 200];
+    let length = save(words, &mut bytes).unwrap() as usize;
+    assert!(bytes[length..].iter().all(|&byte| byte == 0xee), "bytes past the saved form are kept");
+    bytes.truncate(length);
+    bytes
+}
+
+/// L7: "each body entry becomes document number and row place, by rising row place, length 12 + 16F + 8n".
 fn saved_examples(c: &mut Checks) {
     let mut bytes = [0xee; 40];
-    c.same("saved fresh record", save(&fresh_record(1), &mut bytes), Ok(32));
+    c.same("saved fresh record", save(&fresh_record(1), &mut bytes), Ok(36));
     let numbers: Vec<u32> = bytes.chunks(4).map(|b| u32::from_be_bytes(b.try_into().unwrap())).collect();
-    c.same("its numbers", numbers, vec![1, 1, 1, 0, NONE, 1, 0, 0, 0xeeee_eeee, 0xeeee_eeee]);
-    c.same("saved in 31 bytes", save(&fresh_record(1), &mut bytes[..31]), no(9));
+    c.same("its numbers", numbers, vec![1, 1, 1, 0, NONE, 1, 0, 0, 0, 0xeeee_eeee]);
+    c.same("saved in 35 bytes", save(&fresh_record(1), &mut bytes[..35]), no(9));
     c.same("empty bytes", load(&mut [0; 7], &[]), no(3));
     c.same("six words and empty bytes", load(&mut [0; 6], &[]), no(1));
 
     let x = record_x();
-    let mut saved = vec![0; 12 + 16 * 4 + 4 * 6];
-    let length = saved.len() as u32;
-    c.same("X saved", save(&x, &mut saved), Ok(length));
+    let numbers = [
+        [4, 6, 4].as_slice(),
+        &[0, NONE, 1, 0, 1, 0, 2, 0, 2, 1, 2, 1, 3, 0, 1, 0],
+        &[0, 0, 1, 1, 5, 5, 2, 2, 4, 4, 3, 3],
+    ];
+    let mut bytes = saved(&x);
+    c.same("X saved", bytes.clone(), to_bytes(&numbers.concat()));
     let mut again = vec![5; x.len()];
-    c.same("X loaded", load(&mut again, &saved), Ok(6));
+    c.same("X loaded", load(&mut again, &bytes), Ok(6));
     c.same("X again", again, x);
-    c.same("X in five rows", load(&mut [0; 23], &saved), no(7));
-    for cut in 0..saved.len() {
-        c.same("cut short", load(&mut [0; 35], &saved[..cut]), no(3));
+    c.same("X in five rows", load(&mut [0; 23], &bytes), no(7));
+    for cut in 0..bytes.len() {
+        c.same("cut short", load(&mut [0; 35], &bytes[..cut]), no(3));
     }
-    saved.push(0);
-    c.same("one byte more", load(&mut [0; 35], &saved), no(3));
+    bytes.push(0);
+    c.same("one byte more", load(&mut [0; 35], &bytes), no(3));
+}
+
+/// The saved form of records with documents replaced, byte for byte, and what is like it and no saved form.
+fn replaced_saved_examples(c: &mut Checks) {
+    let mut login = fresh_record(1);
+    replace(&mut login, 0).unwrap();
+    let bytes = [0, 0, 0, 1, 0, 0, 0, 2, 0, 0, 0, 1, 0, 0, 0, 0, 255, 255, 255, 255, 0, 0, 0, 1, 0, 0, 0, 0, 0, 0, 0, 1, 0, 0, 0, 0];
+    c.same("the login page replaced, saved", saved(&login), bytes.to_vec());
+
+    // A frame whose second document is upcoming and has the lower number, and another frame between its rows.
+    let mut window = fresh_record(4);
+    open(&mut window, 0).and(open(&mut window, 0)).and(navigate(&mut window, 1)).and(go(&mut window, -1)).unwrap();
+    c.same("replaced", replace(&mut window, 1), Ok(4));
+    c.same("its rows", window.clone(), record(4, 5, 3, &[[0, 0, NONE, 1], [4, 1, 0, 1], [2, 2, 0, 1], [3, 1, 0, 0]]));
+    let told = |frames: [[u32; 4]; 3], bodies: [u32; 8]| to_bytes(&[[3, 5, 3].as_slice(), &frames.concat(), &bodies].concat());
+    let (root, first, second) = ([0, NONE, 1, 0], [1, 0, 2, 0], [2, 0, 1, 0]);
+    let bytes = told([root, first, second], [0, 0, 4, 1, 3, 3, 2, 2]);
+    c.same("saved", saved(&window), bytes.clone());
+    let mut again = vec![9; window.len()];
+    c.same("loaded", load(&mut again, &bytes), Ok(4));
+    c.same("again", again, window.clone());
+    c.same("the same bytes as the old form", load_old(&mut window.clone(), &bytes), no(3));
+    for (name, bytes) in [
+        ("by rising document", told([root, first, second], [0, 0, 3, 3, 4, 1, 2, 2])),
+        ("by rising document, and the second of them shown", told([root, [1, 0, 2, 1], second], [0, 0, 3, 3, 4, 1, 2, 2])),
+        ("the place within the frame", told([root, first, second], [0, 0, 4, 0, 3, 1, 2, 0])),
+        ("the place first", told([root, first, second], [0, 0, 1, 4, 3, 3, 2, 2])),
+        ("places from 1 on", told([root, first, second], [0, 1, 4, 2, 3, 4, 2, 3])),
+        ("a place twice", told([root, first, second], [0, 0, 4, 1, 3, 2, 2, 2])),
+        ("a place left out", told([root, first, second], [0, 0, 4, 1, 3, 4, 2, 2])),
+        ("a document twice", told([root, first, second], [0, 0, 4, 1, 2, 3, 2, 2])),
+        ("a document that is not below the next number", told([root, first, second], [0, 0, 5, 1, 3, 3, 2, 2])),
+        ("shown beyond the frame's documents", told([root, [1, 0, 2, 2], second], [0, 0, 4, 1, 3, 3, 2, 2])),
+        ("frames that fall", told([root, second, first], [0, 0, 2, 2, 4, 1, 3, 3])),
+        ("a parent that comes later", told([root, first, [2, 3, 1, 0]], [0, 0, 4, 1, 3, 3, 2, 2])),
+    ] {
+        c.same(name, load(&mut window.clone(), &bytes), no(3));
+    }
+    let other = told([root, first, second], [0, 0, 1, 1, 3, 3, 2, 2]);
+    c.same("numbers that rise, with a gap", load(&mut window, &other), Ok(4));
+    c.same("another record's saved form", saved(&window), other);
+    let other = told([root, first, second], [0, 0, 4, 2, 3, 3, 2, 1]);
+    c.same("other places", load(&mut window, &other), Ok(4));
+    c.same("rows in another order", documents(&window), vec![0, 2, 4, 3]);
+    c.same("its saved form", saved(&window), other);
+}
+
+/// "The old form has its own loading call, which accepts exactly what it accepted": document 01's "the m document numbers, rising".
+fn old_saved_examples(c: &mut Checks) {
+    let x = record_x();
+    let contents = [4, 6, 4, 0, NONE, 1, 0, 1, 0, 2, 0, 2, 1, 2, 1, 3, 0, 1, 0];
+    let old = |contents: [u32; 19], bodies: [u32; 6]| to_bytes(&[contents.as_slice(), &bodies].concat());
+    let mut bytes = old(contents, [0, 1, 5, 2, 4, 3]);
+    c.same("X in the old form", bytes.clone(), old_bytes_of(&x));
+    c.same("is not in the new one", load(&mut [0; 35], &bytes), no(3));
+    let mut again = vec![9; x.len()];
+    c.same("X loaded from the old form", load_old(&mut again, &bytes), Ok(6));
+    c.same("X again", again.clone(), x.clone());
+    c.same("X saved again in the new form", saved(&again), saved(&x));
+    c.same("which is not in the old one", load_old(&mut again, &saved(&x)), no(3));
+    c.same("X in five rows", load_old(&mut [0; 23], &bytes), no(7));
+    c.same("X in six words", load_old(&mut [0; 6], &bytes), no(1));
+    c.same("six words and empty bytes", load_old(&mut [0; 6], &[]), no(1));
+    for cut in 0..bytes.len() {
+        c.same("cut short", load_old(&mut [0; 35], &bytes[..cut]), no(3));
+    }
+    bytes.push(0);
+    c.same("one byte more", load_old(&mut [0; 35], &bytes), no(3));
+    let mut fresh = [0; 7];
+    c.same("a fresh record in the old form", load_old(&mut fresh, &to_bytes(&[1, 1, 1, 0, NONE, 1, 0, 0])), Ok(1));
+    c.same("its words", fresh.to_vec(), fresh_record(1));
+
+    // X with 3 replaced by 6: its numbers do not rise, so the old form would tell of other rows.
+    let mut words = x.clone();
+    replace(&mut words, 3).unwrap();
+    let replaced = old([4, 7, 4, 0, NONE, 1, 0, 1, 0, 2, 0, 2, 1, 2, 1, 3, 0, 1, 0], [0, 1, 5, 2, 4, 6]);
+    let mut again = vec![0; words.len()];
+    c.same("6 is taken for the last row", load_old(&mut again, &replaced), Ok(6));
+    c.same("and stands there", documents(&again), vec![0, 1, 2, 4, 5, 6]);
+    for (name, bytes) in [
+        ("documents that fall", old(contents, [0, 5, 1, 2, 4, 3])),
+        ("a document twice", old(contents, [0, 1, 5, 2, 4, 4])),
+        ("a step taken that is later than one upcoming", old([4, 7, 4, 0, NONE, 1, 0, 1, 0, 2, 0, 2, 1, 2, 1, 3, 0, 1, 0], [0, 1, 5, 2, 6, 3])),
+        ("a parent with a higher number", old(contents, [0, 2, 5, 1, 4, 3])),
+    ] {
+        c.same(name, load_old(&mut again, &bytes), no(3));
+    }
 }
 
 /// One record for each clause, in which that clause alone fails.
@@ -455,8 +654,12 @@ fn sound_clauses(c: &mut Checks) {
     };
     c.same("S1 no rows", changed(&[(0, 0)]), vec![1]);
     c.same("S1 too many", changed(&[(0, 9)]), vec![1]);
-    c.same("S2 last below word 1", changed(&[(1, 5)]), vec![2]);
-    c.same("S2 rising", changed(&[(3 + 4 * 3, 2)]), vec![2]);
+    c.same("S2 the last below word 1", changed(&[(1, 5)]), vec![2]);
+    c.same("S2 any below word 1", changed(&[(3 + 4 * 3, 6)]), vec![2]);
+    c.same("S2 distinct", changed(&[(3 + 4 * 3, 2)]), vec![2]);
+    c.same("S2 distinct, far apart", changed(&[(3 + 4 * 5, 3)]), vec![2]);
+    c.same("S2 no longer rising", changed(&[(1, 7), (3 + 4 * 3, 6)]), vec![]);
+    c.same("S2 falling", changed(&[(3 + 4 * 3, 5), (3 + 4 * 5, 3)]), vec![]);
     c.same("S3", changed(&[(2, 3)]), vec![3]);
     c.same("S4", changed(&[(3 + 4 * 3 + 2, 3)]), vec![4]);
     c.same("S5 one parent", changed(&[(3 + 4 * 5 + 2, 3)]), vec![5]);
@@ -482,12 +685,19 @@ fn script_examples(c: &mut Checks) {
     for bad in ["drop", "drop ", "drop  1", "drop 1 ", " drop 1", "drop 01", "drop 00", "drop +1", "drop -1", "drop -0", "drop 4294967296", "Drop 1", "drop 1\r"] {
         c.same(bad, script::parse(bad.as_bytes()), None);
     }
+    for bad in ["replace", "replace ", "replace  1", "replace 1 ", " replace 1", "replace 01", "replace +1", "replace -1", "replace 4294967296", "Replace 1", "replaces 1"] {
+        c.same(bad, script::parse(bad.as_bytes()), None);
+    }
     let input = "open 0\nopen 1\nnav 2\nnav 1\ndrop 2\ngo -1\ndrop 2\ndrop 2\ndrop 0\ndrop 1\nopen 0\n";
     let wanted = "ok 1 0/0\nok 2 0/0\nok 3 1/1\nok 4 2/2\nno 5 at 1 2/2\nok 1 1/2\nok 2 0/1\nno 4 0/1\nno 10 0/1\nok 2 0/0\nok 5 0/0\n";
     c.same("a script with drops", text(input), wanted.to_string());
     let input = "open 0\nnav 0\nopen 2\nopen 1\nnav 0\ngo -1\nopen 3\nnav 2\ndrop 2\ndrop 0\nnav 9\n";
     let wanted = "ok 1 0/0\nok 2 1/1\nok 3 1/1\nno 5 at 0 1/1\nno 5 at 0 1/1\nok 1 0/1\nno 5 at 2 0/1\nno 5 at 2 0/1\nno 5 at 2 0/1\nno 10 0/1\nno 4 0/1\n";
     c.same("a script that asks of hidden documents", text(input), wanted.to_string());
+    let input = "replace 0\ngo -1\nopen 1\nopen 2\nnav 3\nopen 1\nnav 5\ngo -1\nreplace 2\nreplace 3\ngo 1\nreplace 5\nreplace 6\ngo -1\n";
+    let wanted = "ok 1 0/0\nno 6 0/0\nok 2 0/0\nok 3 0/0\nok 4 1/1\nok 5 1/1\nok 6 2/2\nok 1 1/2\nok 7 0/1\nno 4 0/1\nok 1 1/1\nno 5 at 5 1/1\nok 8 1/1\nok 1 0/1\n";
+    c.same("a script with replacements", text(input), wanted.to_string());
+    c.same("the largest document", script::parse(b"replace 4294967295"), Some(script::Line::Replace(NONE)));
     c.same("the largest number", script::parse(b"open 4294967295"), Some(script::Line::Open(NONE)));
     c.same("the largest frame number", script::parse(b"drop 4294967295"), Some(script::Line::Drop(NONE)));
     c.same("the least number", script::parse(b"go -2147483648"), Some(script::Line::Go(i32::MIN)));

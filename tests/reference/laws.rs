@@ -1,10 +1,10 @@
 //! Laws that the reference must keep on every record within a few moves of Fresh: document 001's theorem, its literal
-//! patches and its deleting, demand 3, and the round trip of the saved form. Each panics when it fails.
+//! patches and its deleting, demand 3, and the round trips of the saved forms. Each panics when it fails.
 use crate::calls::*;
 use crate::history::History;
 use crate::record::{rows, write, Row, NONE};
-use crate::saved::{bytes_of, record_of};
-use crate::sound::{broken, is_sound};
+use crate::saved::{bytes_of, old_bytes_of, old_record_of, record_of};
+use crate::sound::{broken, is_sound, rises};
 use std::collections::{BTreeMap, HashSet};
 
 const ROOM: usize = 5;
@@ -18,6 +18,7 @@ enum Move {
     Navigate,
     Traverse,
     Drop,
+    Replace(u32),
 }
 
 /// Checks every record that MOVES moves can reach in ROOM rows; answers how many there are.
@@ -30,6 +31,7 @@ pub fn check_all() -> usize {
     for record in &reached {
         traversal(record);
         dropping(record);
+        replacing(record);
         hiding(record);
         round_trip(record);
         well_formed_is_s7(record);
@@ -55,8 +57,9 @@ fn reached(start: &[u32], moves: usize, allowed: impl Fn(&[u32], Move, &[u32]) -
     reached
 }
 
-/// Demand 3 as L1 words it: "no accepted navigation begun from a position lower than the noted one", "no removed row is one of the noted
-/// position's taken steps". Each time the position is the noted one again, the "noted documents still in the record" are visible as noted.
+/// Demand 3 as L1 and L7 word it: "no accepted navigation begun from a position lower than the noted one", "no removed row is one of the
+/// noted position's taken steps", "no document that existed at the note is replaced". Each time the position is the noted one again, the
+/// "noted documents still in the record" are visible as noted.
 fn noted(note: &[u32]) {
     let place = |words: &[u32]| position(words).unwrap().0;
     let has = |words: &[u32], document: u32| rows(words).iter().any(|row| row.document == document);
@@ -65,6 +68,7 @@ fn noted(note: &[u32]) {
     let allowed = |before: &[u32], made: Move, after: &[u32]| match made {
         Move::Navigate => place(before) >= place(note),
         Move::Drop => taken.iter().all(|&step| has(after, step) || !has(before, step)),
+        Move::Replace(document) => !has(note, document),
         Move::Open | Move::Traverse => true,
     };
     for record in reached(note, MOVES_SINCE, allowed).iter().filter(|record| place(record) == place(note)) {
@@ -84,9 +88,13 @@ fn go(record: &[u32], delta: i64) -> Answer<Vec<u32>> {
 fn successors(record: &[u32]) -> Vec<(Move, Vec<u32>)> {
     let mut out = Vec::new();
     for document in 0..record[1] + 1 {
-        for made in [Move::Open, Move::Navigate] {
+        for made in [Move::Open, Move::Navigate, Move::Replace(document)] {
             let mut words = record.to_vec();
-            let new = if made == Move::Open { open(&mut words, document) } else { navigate(&mut words, document).map(|new| (new, record[2])) };
+            let new = match made {
+                Move::Open => open(&mut words, document),
+                Move::Navigate => navigate(&mut words, document).map(|new| (new, record[2])),
+                _ => replace(&mut words, document).map(|new| (new, record[2])),
+            };
             match new {
                 Ok((new, frame)) => {
                     assert!(rows(record).iter().all(|row| row.document < new) && words[1] == new + 1, "a new document number");
@@ -171,6 +179,36 @@ fn dropping(record: &[u32]) {
     }
 }
 
+/// Replace keeps every row but those beneath the document, all of them as they were but for its own number, which is the next one. "Position
+/// may fall by taken steps beneath"; "upcoming steps elsewhere stay" upcoming, and Back does not come to the old document again.
+fn replacing(record: &[u32]) {
+    let before = rows(record);
+    for document in 0..record[1] + 1 {
+        let mut words = record.to_vec();
+        let wanted = match visible(record, document) {
+            Err(refusal) => Err(refusal),
+            Ok(Sight { hiding: Some(hiding), .. }) => hidden_by(hiding),
+            Ok(_) => Ok(record[1]),
+        };
+        assert_eq!(replace(&mut words, document), wanted, "4 and 5 as for navigation, and never 7");
+        if wanted.is_ok() {
+            let stays = |row: &&Row| row.document == document || !leads_to(&before, document, row.document);
+            let renamed = |row: &Row| Row { document: if row.document == document { record[1] } else { row.document }, ..*row };
+            assert_eq!(rows(&words), before.iter().filter(stays).map(renamed).collect::<Vec<_>>(), "in its own row");
+            assert_eq!(words[1..3], [record[1] + 1, record[2]], "the next numbers");
+            let numbers = |words: &[u32], places: fn(&History) -> Vec<usize>| -> Vec<u32> {
+                let history = History::of(&rows(words));
+                places(&history).into_iter().map(|place| history.documents[place].number).collect()
+            };
+            let beneath = |&step: &u32| step != document && leads_to(&before, document, step);
+            let lost = numbers(record, History::taken).iter().filter(|step| beneath(step)).count() as u32;
+            assert_eq!(position(&words).unwrap().0, position(record).unwrap().0 - lost, "the taken steps beneath");
+            let ahead: Vec<u32> = numbers(record, History::joint_future).into_iter().filter(|step| !beneath(step)).collect();
+            assert_eq!(numbers(&words, History::joint_future), ahead, "upcoming steps elsewhere");
+        }
+    }
+}
+
 /// Definition 2: "D' = D \ {e | d →* e}".
 fn deleted(rows: &[Row], d: u32) -> Vec<Row> {
     rows.iter().filter(|e| !leads_to(rows, d, e.document)).copied().collect()
@@ -199,12 +237,17 @@ fn hiding(record: &[u32]) {
     }
 }
 
+/// "Demand 2's round trip is about the new form." The old form holds the records whose numbers rise and no others, and no bytes are of both.
 fn round_trip(record: &[u32]) {
-    let bytes = bytes_of(record);
+    let (bytes, old) = (bytes_of(record), old_bytes_of(record));
     let frames = u32::from_be_bytes(bytes[..4].try_into().unwrap()) as usize;
-    assert_eq!(bytes.len(), 12 + 16 * frames + 4 * record[0] as usize, "length 12 + 16F + 4n");
+    assert_eq!(bytes.len(), 12 + 16 * frames + 8 * record[0] as usize, "length 12 + 16F + 8n");
+    assert_eq!(old.len(), 12 + 16 * frames + 4 * record[0] as usize, "length 12 + 16F + 4n");
     let again = record_of(&bytes).expect("what Save writes, Load takes");
     assert_eq!(&again[..record.len()], record);
+    let holds = old_record_of(&old).is_some_and(|again| again[..record.len()] == *record);
+    assert_eq!(holds, rises(record), "the old form tells the order of rows by their numbers");
+    assert_eq!((record_of(&old), old_record_of(&bytes)), (None, None), "each form has its own loading call");
 }
 
 /// S7 is definition 5 word for word, for every choice of one shown document in each frame.

@@ -1,5 +1,5 @@
 //! The script program: lines in, one answer line each.
-use crate::calls::{drop_frame, fresh, navigate, open, position, traverse, Refusal};
+use crate::calls::{drop_frame, fresh, navigate, open, position, replace, traverse, Refusal};
 use crate::record::MOST_ROWS;
 
 #[derive(Clone, Copy, Debug, PartialEq, Eq)]
@@ -8,6 +8,7 @@ pub enum Line {
     Nav(u32),
     Go(i32),
     Drop(u32),
+    Replace(u32),
 }
 
 /// The window of a script: a fresh record with C = 512.
@@ -31,6 +32,7 @@ impl Window {
             Line::Nav(from) => navigate(&mut self.words, from),
             Line::Go(delta) => traverse(&mut self.words, delta, &mut changes),
             Line::Drop(frame) => drop_frame(&mut self.words, frame),
+            Line::Replace(document) => replace(&mut self.words, document),
         };
         let (position, steps, _) = position(&self.words).expect("the record stays sound");
         match outcome {
@@ -76,6 +78,9 @@ pub fn parse(line: &[u8]) -> Option<Line> {
     }
     if let Some(digits) = line.strip_prefix(b"drop ") {
         return Some(Line::Drop(u32::try_from(decimal(digits)?).ok()?));
+    }
+    if let Some(digits) = line.strip_prefix(b"replace ") {
+        return Some(Line::Replace(u32::try_from(decimal(digits)?).ok()?));
     }
     let number = line.strip_prefix(b"go ")?;
     let value = match number.strip_prefix(b"-") {

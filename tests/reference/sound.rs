@@ -1,4 +1,4 @@
-//! S1 to S8, each as document 01 words it.
+//! S1 to S8, each as document 01 words it, S2 as document 02's L7 does.
 use crate::record::{capacity, rows, used_words, Row, NONE};
 use std::collections::{BTreeMap, HashMap, HashSet};
 
@@ -13,9 +13,10 @@ pub fn broken(words: &[u32]) -> Vec<u8> {
     }
     let (next_document, next_frame, rows) = (words[1], words[2], rows(words));
     let mut out = Vec::new();
-    // "S2. Document numbers rise strictly by row; the last is below word 1."
-    let rising = rows.windows(2).all(|pair| pair[0].document < pair[1].document);
-    if !(rising && rows[count - 1].document < next_document) {
+    // "S2 therefore changes: numbers are distinct and all below word 1, no longer rising."
+    let mut numbers = HashSet::new();
+    let distinct = rows.iter().all(|row| numbers.insert(row.document));
+    if !(distinct && rows.iter().all(|row| row.document < next_document)) {
         out.push(2);
     }
     // "S3. Every frame number is below word 2."
@@ -82,4 +83,9 @@ fn upcoming_is_last(rows: &[Row], shown_of_frame: &BTreeMap<u32, Vec<usize>>) ->
 
 pub fn is_sound(words: &[u32]) -> bool {
     broken(words).is_empty()
+}
+
+/// S2 as it was, by which the old saved form goes: "Document numbers rise strictly by row". That the last is below word 1 is in S2 as it is.
+pub fn rises(words: &[u32]) -> bool {
+    rows(words).windows(2).all(|pair| pair[0].document < pair[1].document)
 }

@@ -2,7 +2,7 @@
 use crate::maker::Maker;
 use crate::request::{Reply, Request};
 use crate::table::Seen;
-use std::io::{BufReader, Write};
+use std::io::{self, BufReader, Write};
 use std::process::{Child, Command, Stdio};
 use std::sync::mpsc::sync_channel;
 use std::sync::Arc;
@@ -77,6 +77,10 @@ pub fn run(seed: u64, calls: u64, driver: &[String]) -> bool {
 
 fn report(seed: u64, number: u64, request: &Request, wanted: &Reply, given: &Reply) {
     println!("DIFFERENCE at call {number}, seed {seed}");
+    print_difference(request, wanted, given);
+}
+
+pub fn print_difference(request: &Request, wanted: &Reply, given: &Reply) {
     request.print();
     println!(" the reference:");
     wanted.print();
@@ -101,14 +105,20 @@ fn report_end(seed: u64, number: u64, open: &[&Request], driver: &[String]) {
 }
 
 fn answers_all(requests: &[&Request], driver: &[String]) -> bool {
+    replies(requests, driver).is_some()
+}
+
+/// What a driver started anew answers; none where it does not answer all, or does not end well.
+pub fn replies(requests: &[&Request], driver: &[String]) -> Option<Vec<Reply>> {
     let mut child = start(driver);
     let mut to_driver = child.stdin.take().unwrap();
     let mut from_driver = BufReader::new(child.stdout.take().unwrap());
     let mut bytes = Vec::new();
     requests.iter().for_each(|request| request.encode(&mut bytes));
     let writer = std::thread::spawn(move || drop(to_driver.write_all(&bytes)));
-    let answered = requests.iter().all(|request| Reply::read(&mut from_driver, request).is_ok());
+    let replies: io::Result<Vec<Reply>> = requests.iter().map(|request| Reply::read(&mut from_driver, request)).collect();
     drop(from_driver);
     writer.join().unwrap();
-    child.wait().is_ok_and(|status| status.success()) && answered
+    let ended_well = child.wait().is_ok_and(|status| status.success());
+    replies.ok().filter(|_| ended_well)
 }

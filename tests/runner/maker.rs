@@ -1,9 +1,10 @@
 //! Makes the calls: which one, on which record, with which numbers and buffers.
 use crate::random::Random;
 use crate::request::{Call, Reply, Request, CALLS};
+use crate::saves::Form;
 use crate::{doubles, records, saves, stores};
 use reference::record::{capacity, NONE};
-use reference::sound::is_sound;
+use reference::sound::{is_sound, rises};
 
 /// Records that stay sound and go on from call to call: many small ones, some of middle size, a few of up to 512 rows.
 pub struct Maker {
@@ -50,14 +51,15 @@ impl Maker {
         [&mut self.small, &mut self.middle, &mut self.large].into_iter().nth(pool).unwrap()
     }
 
-    /// An accepted move changes the record that the pool holds. Fresh, Load, Drop and large removals do so rarely or never,
-    /// lest all records stay small.
+    /// An accepted move changes the record that the pool holds. Fresh, loading, Drop and large removals do so rarely or never,
+    /// lest all records stay small; Replace does so of every other record, so that there are some whose numbers rise.
     fn keep(&mut self, call: Call, pool: usize, entry: usize, words: &[u32]) {
         let kept = match call {
             Call::Open | Call::Traverse => true,
             Call::Navigate => pool == 0 || self.random.chance(3) || words[0] + 8 >= self.pool(pool)[entry][0],
+            Call::Replace => entry % 2 == 1 && (self.random.chance(3) || words[0] + 8 >= self.pool(pool)[entry][0]),
             Call::Drop => self.random.chance(10),
-            Call::Fresh | Call::Load => pool == 0 && self.random.chance(10),
+            Call::Fresh | Call::Load | Call::LoadOld => pool == 0 && self.random.chance(10),
             _ => false,
         };
         if kept {
@@ -109,6 +111,7 @@ impl Maker {
             Call::Fresh | Call::Position => {}
             Call::Open | Call::Navigate | Call::Visible => request.number = number(random, &request.words, 0, records::visible_document),
             Call::Drop => request.number = number(random, &request.words, 1, records::frame_to_drop),
+            Call::Replace => request.number = number(random, &request.words, 0, records::document_to_replace),
             Call::Traverse => {
                 request.number = delta(random, &request.words) as u32;
                 request.first = lent(random, needed(&request, |reply| 4 * reply.outs[0]));
@@ -128,13 +131,13 @@ impl Maker {
                 request.places = stores::store(random, &request.words, request.number);
                 request.given = stores::given(random, &request.places, request.number);
             }
-            Call::Load => {
-                request.bytes = self.load_bytes();
+            Call::Load | Call::LoadOld => {
+                request.bytes = self.load_bytes(Form::of(call));
                 let random = &mut self.random;
                 // The earlier words of the record do not matter, and its room is often just right or just too small.
                 if random.chance(40) {
-                    let rows = request.bytes.len() / 4;
-                    let length = random.pick(&[rows, 4 * rows, 2051, 2047, 2060]);
+                    let rows = Form::of(call).record(&request.bytes).map_or(8, |record| record[0] as usize);
+                    let length = random.pick(&[3 + 4 * rows, 2 + 4 * rows, 6 + 4 * rows, 2051, 2047, 2060]);
                     request.words = random.words(length);
                 }
             }
@@ -142,25 +145,29 @@ impl Maker {
         request
     }
 
-    fn load_bytes(&mut self) -> Vec<u8> {
+    /// Bytes for the loading call of a form, now and then of the other one.
+    fn load_bytes(&mut self, own: Form) -> Vec<u8> {
         let pool = self.random.pick(&[0, 0, 0, 0, 0, 0, 0, 1, 1, 2]);
         let entries = self.pool(pool).len();
         let entry = self.random.below(entries);
         let mut words = self.pool(pool)[entry].clone();
         let random = &mut self.random;
-        if random.chance(40) {
+        let form = if random.chance(88) { own } else { own.other() };
+        if form == Form::Old && (!rises(&words) || random.chance(40)) {
+            records::renumber_rising(random, &mut words);
+        } else if form == Form::New && random.chance(40) {
             records::renumber(random, &mut words);
         }
-        let mut bytes = saves::saved(&words);
+        let mut bytes = form.saved(&words);
         match random.below(20) {
             0..=7 => bytes,
             8..=16 => {
-                saves::damage(random, &mut bytes);
+                saves::damage(random, form, &mut bytes);
                 bytes
             }
             17 => {
                 let documents = random.pick(&[1, 2, 511, 512, 513, 514, 700]);
-                saves::long_frame(random, documents)
+                saves::long_frame(random, form, documents)
             }
             _ => saves::noise(random),
         }
@@ -181,7 +188,7 @@ fn needed(request: &Request, size: fn(&Reply) -> u32) -> usize {
     let mut ample = request.clone();
     ample.first = vec![0; 2048];
     ample.second = vec![0; 2048];
-    ample.bytes = vec![0; 12 + 20 * 512];
+    ample.bytes = vec![0; 12 + 24 * 512];
     let reply = ample.expected();
     if reply.refusal == 0 { size(&reply) as usize } else { 2 }
 }
@@ -256,7 +263,7 @@ fn plain_calls(random: &mut Random) -> Vec<Request> {
                 request.first = random.words(8);
                 request.second = random.words(8);
                 request.places = stores::store(random, &request.words, 0);
-                request.bytes = if call == Call::Load { saves::long_frame(random, 1 + length / 8) } else { random.bytes(40) };
+                request.bytes = if call.loads() { saves::long_frame(random, Form::of(call), 1 + length / 8) } else { random.bytes(40) };
                 requests.push(request);
             }
         }

@@ -1,9 +1,9 @@
-//! Records for the calls: grown by moves, renumbered, damaged, cut, and noise.
+//! Records for the calls: grown by moves, replacements among them, renumbered, damaged, cut, and noise.
 use crate::random::Random;
 use reference::calls;
 use reference::history::History;
 use reference::record::{capacity, rows, used_words, write, Row, NONE};
-use std::collections::BTreeMap;
+use std::collections::{BTreeMap, HashSet};
 
 /// A fresh record with room for so many rows and some words past them.
 pub fn fresh(random: &mut Random, room: usize) -> Vec<u32> {
@@ -13,12 +13,13 @@ pub fn fresh(random: &mut Random, room: usize) -> Vec<u32> {
     words
 }
 
-/// How a record grows: how many of its moves traverse and how far, how many of the others open a frame, and which visible
-/// documents it moves from.
+/// How a record grows: how many of its moves traverse and how far, how many of the others replace, how many of the rest open a frame, and
+/// which visible documents it moves from.
 #[derive(Clone, Copy)]
 pub struct Shape {
     traverse_percent: usize,
     reach: i32,
+    replace_percent: usize,
     open_percent: usize,
     from: From,
 }
@@ -35,6 +36,7 @@ impl Shape {
         Shape {
             traverse_percent: 15,
             reach: random.pick(&[1, 2, 2, 700]),
+            replace_percent: random.pick(&[0, 0, 5, 25]),
             open_percent: random.pick(&[5, 20, 50, 95]),
             from: random.pick(&[From::Any, From::Any, From::Latest, From::Root]),
         }
@@ -52,6 +54,9 @@ pub fn move_on(random: &mut Random, words: &mut [u32], shape: Shape) {
     let _ = if random.chance(shape.traverse_percent) {
         let delta = delta_within(random, words, 0).clamp(-shape.reach, shape.reach);
         calls::traverse(words, delta, &mut vec![0; 4 * 512])
+    } else if random.chance(shape.replace_percent) {
+        let document = if random.chance(70) { leaf(random, words) } else { from };
+        calls::replace(words, document)
     } else if random.chance(shape.open_percent) {
         calls::open(words, from).map(|(document, _frame)| document)
     } else {
@@ -78,22 +83,34 @@ pub fn nearly_full(random: &mut Random, room: usize) -> Vec<u32> {
         }
         // Removals may outweigh what comes; opening alone always ends.
         if turn == 3 * room {
-            shape = Shape { traverse_percent: 0, open_percent: 100, ..shape };
+            shape = Shape { traverse_percent: 0, replace_percent: 0, open_percent: 100, ..shape };
         }
         move_on(random, &mut words, shape);
     }
     words
 }
 
-/// By rising number, the root frame's first.
+/// In the order of their rows, the root frame's first.
 fn visible_documents(words: &[u32]) -> Vec<u32> {
-    let mut visible: Vec<u32> = History::of(&rows(words)).fully_active().into_iter().collect();
-    visible.sort();
-    visible
+    let rows = rows(words);
+    let visible = History::of(&rows).fully_active();
+    rows.iter().map(|row| row.document).filter(|document| visible.contains(document)).collect()
 }
 
 pub fn visible_document(random: &mut Random, words: &[u32]) -> u32 {
     random.pick(&visible_documents(words))
+}
+
+/// A visible document that holds no frame, so that its replacement removes nothing.
+fn leaf(random: &mut Random, words: &[u32]) -> u32 {
+    let held: HashSet<u32> = rows(words).iter().map(|row| row.parent).collect();
+    let leaves: Vec<u32> = visible_documents(words).into_iter().filter(|document| !held.contains(document)).collect();
+    random.pick(&leaves)
+}
+
+/// A visible document to replace, one that holds no frame among them more often than not.
+pub fn document_to_replace(random: &mut Random, words: &[u32]) -> u32 {
+    if random.chance(40) { leaf(random, words) } else { visible_document(random, words) }
 }
 
 /// A frame that a visible document holds; the root frame where there is none.
@@ -109,10 +126,24 @@ pub fn delta_within(random: &mut Random, words: &[u32], beyond: i64) -> i32 {
     random.between(-(position as i64) - beyond, (steps - position) as i64 + beyond) as i32
 }
 
-/// The same history with other numbers: documents still rise, frames come in any order, the next numbers are anything above.
+/// The same history with other numbers: documents rise, or some do not, or they come in any order; so do frames, and the next numbers are
+/// anything above.
 pub fn renumber(random: &mut Random, words: &mut [u32]) {
+    let exchanges = random.pick(&[0, 0, 1, 3, 2 * words[0] as usize]);
+    renumber_with(random, words, exchanges);
+}
+
+/// The same with documents that rise.
+pub fn renumber_rising(random: &mut Random, words: &mut [u32]) {
+    renumber_with(random, words, 0);
+}
+
+/// Renumbers with documents that rise, but for so many exchanges of two.
+fn renumber_with(random: &mut Random, words: &mut [u32], exchanges: usize) {
     let mut rows = rows(words);
-    let documents = rising_numbers(random, rows.len() + 1);
+    let mut documents = rising_numbers(random, rows.len() + 1);
+    let next_document = documents.pop().unwrap();
+    (0..exchanges).for_each(|_| documents.swap(random.below(rows.len()), random.below(rows.len())));
     let frames = History::of(&rows).sessions();
     let mut numbers = rising_numbers(random, frames.len() + 1);
     let next_frame = numbers.pop().unwrap();
@@ -120,12 +151,12 @@ pub fn renumber(random: &mut Random, words: &mut [u32]) {
         numbers.swap(i, random.below(i + 1));
     }
     let frame_number: BTreeMap<u32, u32> = frames.into_iter().zip(numbers).collect();
-    let mut document_number: BTreeMap<u32, u32> = rows.iter().map(|row| row.document).zip(documents.iter().copied()).collect();
+    let mut document_number: BTreeMap<u32, u32> = rows.iter().map(|row| row.document).zip(documents).collect();
     document_number.insert(NONE, NONE);
     for row in &mut rows {
         *row = Row { document: document_number[&row.document], frame: frame_number[&row.frame], parent: document_number[&row.parent], shown: row.shown };
     }
-    write(words, documents[rows.len()], next_frame, &rows);
+    write(words, next_document, next_frame, &rows);
 }
 
 /// Rising numbers that are close together, spread over the whole range, or end at its end.
@@ -154,7 +185,7 @@ pub fn damage(random: &mut Random, words: &mut Vec<u32>) {
     let room = capacity(words.len());
     let row = 3 + 4 * random.below(count);
     let other = 3 + 4 * random.below(count);
-    match random.below(15) {
+    match random.below(17) {
         0 | 1 => change_words(random, words, 1),
         2 => {
             let places = 1 + random.below(4);
@@ -170,7 +201,7 @@ pub fn damage(random: &mut Random, words: &mut Vec<u32>) {
             let at = 3 + 4 * count + random.below(4 * (room - count));
             words[at] = random.pick(&[1, 2, NONE]);
         }
-        7 => words[1] = words[3 + 4 * (count - 1)].saturating_sub(random.below(2) as u32),
+        7 => words[1] = rows(words).iter().map(|row| row.document).max().unwrap().saturating_sub(random.below(2) as u32),
         8 => words[2] = rows(words).iter().map(|row| row.frame).max().unwrap().saturating_sub(random.below(2) as u32),
         9 => {
             // The whole frame gets another parent: its own row, a later one, one that is not there, or none.
@@ -182,6 +213,8 @@ pub fn damage(random: &mut Random, words: &mut Vec<u32>) {
         10 => words[row + 2] = random.pick(&[words[other], words[other + 2], NONE]),
         11 => words[row + 1] = words[other + 1],
         12 => words[row + 3] = random.pick(&[0, 1, 2, NONE, 0x0100_0001]),
+        13 => words[row] = words[other],
+        15 => words[row] = words[1].saturating_add(random.below(2) as u32),
         _ => {
             let end = used_words(words.len());
             words[end..].iter_mut().for_each(|word| *word = random.telling_word());

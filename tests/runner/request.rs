@@ -13,6 +13,7 @@ pub enum Call {
     Navigate,
     Traverse,
     Drop,
+    Replace,
     Position,
     Visible,
     Lists,
@@ -20,6 +21,7 @@ pub enum Call {
     Outline,
     Save,
     Load,
+    LoadOld,
     PlaceItself,
     PlaceAt,
     Place,
@@ -27,9 +29,9 @@ pub enum Call {
 }
 
 /// In the order of the driver's numbers.
-pub const CALLS: [Call; 16] = [
-    Call::Fresh, Call::Open, Call::Navigate, Call::Traverse, Call::Drop, Call::Position, Call::Visible, Call::Lists, Call::Stretch, Call::Outline,
-    Call::Save, Call::Load, Call::PlaceItself, Call::PlaceAt, Call::Place, Call::PlaceAtZoom,
+pub const CALLS: [Call; 18] = [
+    Call::Fresh, Call::Open, Call::Navigate, Call::Traverse, Call::Drop, Call::Replace, Call::Position, Call::Visible, Call::Lists, Call::Stretch,
+    Call::Outline, Call::Save, Call::Load, Call::LoadOld, Call::PlaceItself, Call::PlaceAt, Call::Place, Call::PlaceAtZoom,
 ];
 
 impl Call {
@@ -37,7 +39,7 @@ impl Call {
     fn hiding_word(self) -> Option<usize> {
         match self {
             Call::Open => Some(2),
-            Call::Navigate | Call::Drop => Some(1),
+            Call::Navigate | Call::Drop | Call::Replace => Some(1),
             _ => None,
         }
     }
@@ -45,6 +47,16 @@ impl Call {
     /// Whether it is lent a store of scroll places.
     pub fn has_store(self) -> bool {
         matches!(self, Call::PlaceItself | Call::PlaceAt | Call::Place | Call::PlaceAtZoom)
+    }
+
+    /// Whether it fills a record from bytes.
+    pub fn loads(self) -> bool {
+        matches!(self, Call::Load | Call::LoadOld)
+    }
+
+    /// Whether it begins with the test of a record.
+    pub fn examines(self) -> bool {
+        !self.loads() && !matches!(self, Call::Fresh | Call::Stretch)
     }
 }
 
@@ -142,6 +154,7 @@ impl Request {
             Call::Navigate => vec![calls::navigate(words, self.number)?],
             Call::Traverse => vec![calls::traverse(words, self.number as i32, first)?],
             Call::Drop => vec![calls::drop_frame(words, self.number)?],
+            Call::Replace => vec![calls::replace(words, self.number)?],
             Call::Position => calls::position(words).map(|(position, steps, length)| vec![position, steps, length])?,
             Call::Visible => calls::visible(words, self.number).map(|sight| vec![sight.visible() as u32, sight.hiding.unwrap_or(NONE), sight.links])?,
             Call::Lists => calls::lists(words, first, second).map(|(taken, upcoming)| vec![taken, upcoming])?,
@@ -149,6 +162,7 @@ impl Request {
             Call::Outline => vec![calls::outline(words, first)?],
             Call::Save => vec![calls::save(words, bytes)?],
             Call::Load => vec![calls::load(words, bytes)?],
+            Call::LoadOld => vec![calls::load_old(words, bytes)?],
             Call::PlaceItself => places::place_itself(words, places, self.number).map(|()| vec![])?,
             Call::PlaceAt => places::place_at(words, places, self.number, given).map(|()| vec![])?,
             Call::Place => vec![told(places::place(words, places, self.number)?, doubles)],

@@ -1,17 +1,18 @@
 //! Random scripts for the script program, and the comparison of what it prints with what the reference prints.
 use crate::random::Random;
-use crate::records::{delta_within, frame_to_drop, visible_document};
+use crate::records::{delta_within, document_to_replace, frame_to_drop, visible_document};
 use reference::script::{output, Window};
 use std::io::{Read, Write};
 use std::process::{Command, Stdio};
 
 /// Lines that are `bad` for one small reason each.
-const BAD: [&str; 50] = [
+const BAD: [&str; 63] = [
     "", " ", "open", "nav", "go", "open ", "nav ", "go ", "open  0", "open 0 ", " open 0", "open\t0", "Open 0", "OPEN 0", "opens 0", "open 00", "open 01",
     "open +1", "open -1", "open -0", "open 4294967296", "nav 4294967300", "nav 18446744073709551616", "nav 0x1", "nav 1.0", "nav 1,", "nav 0\r", "go -0",
     "go +1", "go 2147483648", "go -2147483649", "go --1", "go -", "go - 1", "go -01", "navigate 0",
     "drop", "drop ", "drop  1", "drop 1 ", " drop 1", "drop\t1", "Drop 1", "drops 1", "drop 01", "drop +1", "drop -1", "drop -0", "drop 4294967296",
-    "drop 1\r",
+    "drop 1\r", "replace", "replace ", "replace  1", "replace 1 ", " replace 1", "replace\t1", "Replace 1", "replaces 1", "replac 1", "replace 01",
+    "replace -1", "replace 4294967296", "replace 1\r",
 ];
 
 /// A script of so many lines, and what the reference prints for it. It follows the window that the reference keeps,
@@ -19,14 +20,16 @@ const BAD: [&str; 50] = [
 pub fn script(random: &mut Random, lines: usize) -> (Vec<u8>, Vec<u8>) {
     let mut window = Window::new();
     let (mut text, mut answers) = (Vec::new(), Vec::new());
-    // A long script goes back and drops so little that the table gets full.
-    let (bad_share, drop_share, widest_go) =
-        if lines > 1000 { (2, 1, 1) } else { (random.pick(&[0, 2, 10, 60]), random.pick(&[0, 3, 15]), random.pick(&[1, 3, 600])) };
+    // A long script goes back, drops and replaces so little that the table gets full.
+    let (bad_share, drop_share, replace_share, widest_go) =
+        if lines > 1000 { (2, 1, 1, 1) } else { (random.pick(&[0, 2, 10, 60]), random.pick(&[0, 3, 15]), random.pick(&[0, 5, 20]), random.pick(&[1, 3, 600])) };
     for _ in 0..lines {
         let line = if random.chance(bad_share) {
             bad_line(random)
         } else if random.chance(drop_share) {
             drop_line(random, &window.words)
+        } else if random.chance(replace_share) {
+            replace_line(random, &window.words)
         } else {
             good_line(random, &window.words, widest_go)
         };
@@ -45,12 +48,17 @@ pub fn script(random: &mut Random, lines: usize) -> (Vec<u8>, Vec<u8>) {
     (text, answers)
 }
 
-fn good_line(random: &mut Random, words: &[u32], widest_go: i64) -> Vec<u8> {
-    let document = match random.below(20) {
+/// A document that is most likely visible, or any number.
+fn document(random: &mut Random, words: &[u32], visible: fn(&mut Random, &[u32]) -> u32) -> u32 {
+    match random.below(20) {
         0 => random.telling_word(),
         1 | 2 => random.below(words[1] as usize + 2) as u32,
-        _ => visible_document(random, words),
-    };
+        _ => visible(random, words),
+    }
+}
+
+fn good_line(random: &mut Random, words: &[u32], widest_go: i64) -> Vec<u8> {
+    let document = document(random, words, visible_document);
     let line = match random.below(20) {
         0..=7 => format!("open {document}"),
         8..=14 => format!("nav {document}"),
@@ -69,20 +77,24 @@ fn drop_line(random: &mut Random, words: &[u32]) -> Vec<u8> {
     format!("drop {frame}").into_bytes()
 }
 
+fn replace_line(random: &mut Random, words: &[u32]) -> Vec<u8> {
+    format!("replace {}", document(random, words, document_to_replace)).into_bytes()
+}
+
 fn bad_line(random: &mut Random) -> Vec<u8> {
     let length = random.pick(&[1, 10, 63, 64, 65, 66, 128, 4096, 70_000]);
     match random.below(8) {
         0..=3 => random.pick(&BAD).into(),
         // Digits up to and past the longest line, zeros in front among them.
-        4 => [random.pick(&["nav ", "drop "]).as_bytes(), &vec![random.pick(b"0123456789"); length]].concat(),
+        4 => [random.pick(&["nav ", "drop ", "replace "]).as_bytes(), &vec![random.pick(b"0123456789"); length]].concat(),
         // A good line's text and then too much of it.
         5 => [b"open 0".as_slice(), &vec![random.pick(b" 0x\r\0"); length]].concat(),
         6 => random.bytes(length).into_iter().filter(|&byte| byte != b'\n').collect(),
         _ => {
             // A good line with one byte changed; it may stay good.
-            let mut line = random.pick(&["open 0", "nav 12", "go -1", "go 1", "nav 4294967295", "go -2147483648", "drop 1"]).as_bytes().to_vec();
+            let mut line = random.pick(&["open 0", "nav 12", "go -1", "go 1", "nav 4294967295", "go -2147483648", "drop 1", "replace 1"]).as_bytes().to_vec();
             let at = random.below(line.len());
-            line[at] = random.pick(b" 0129-+/:agnop\0\xff\r");
+            line[at] = random.pick(b" 0129-+/:aceglnopr\0\xff\r");
             line
         }
     }

@@ -1,7 +1,10 @@
 //! The table of document 01, "Nine ways to say no", with document 02's refusals, and a count of what occurred of it.
 use crate::request::{Call, Request, CALLS};
+use crate::saves::{self, UNORDERED};
 use crate::stores;
-use reference::sound::broken;
+use reference::calls::position;
+use reference::record::{capacity, rows};
+use reference::sound::{broken, rises};
 use std::collections::BTreeMap;
 use std::ops::RangeInclusive;
 
@@ -14,13 +17,13 @@ pub fn allowed(call: Call, refusal: u32) -> bool {
     match refusal {
         0 => true,
         1 => call != Stretch,
-        2 => !matches!(call, Fresh | Load | Stretch),
-        3 => call == Load,
-        4 => matches!(call, Open | Navigate | Drop | Visible) || call.has_store(),
-        5 => matches!(call, Open | Navigate | Drop),
+        2 => call.examines(),
+        3 => call.loads(),
+        4 => matches!(call, Open | Navigate | Drop | Replace | Visible) || call.has_store(),
+        5 => matches!(call, Open | Navigate | Drop | Replace),
         6 => matches!(call, Traverse | Stretch),
-        7 => matches!(call, Open | Navigate | Load),
-        8 => matches!(call, Open | Navigate),
+        7 => matches!(call, Open | Navigate) || call.loads(),
+        8 => matches!(call, Open | Navigate | Replace),
         9 => matches!(call, Traverse | Lists | Outline | Save),
         10 => call == Drop,
         11 => matches!(call, PlaceAt | PlaceAtZoom),
@@ -39,16 +42,71 @@ fn hider(not_shown: &[usize]) -> Option<&'static str> {
     Some(HIDERS[2 * (nearest > 0) as usize + (not_shown.len() > 1) as usize])
 }
 
-/// The ways that a call must have come to its answers: who hides a document, where it tells that, or what the store holds.
+/// What a replacement met: nothing that goes, taken steps that do, an upcoming step that stays, no row to spare.
+const REPLACEMENTS: [&str; 4] = ["nothing beneath", "taken steps beneath", "an upcoming step stays", "no row left"];
+
+/// Those of REPLACEMENTS that an accepted one has.
+fn replacement(request: &Request) -> Vec<&'static str> {
+    let words = &request.words;
+    let after = request.expected().words;
+    let stands = |words: &[u32]| position(words).expect("an accepted call's record is sound");
+    let ((before, ..), (now, steps, _)) = (stands(words), stands(&after));
+    let met = [after[0] == words[0], now < before, now < steps, words[0] as usize == capacity(words.len())];
+    REPLACEMENTS.into_iter().zip(met).filter(|(_, met)| *met).map(|(way, _)| way).collect()
+}
+
+/// The ways that a call must have come to its answers: who hides a document, where it tells that; what the store or the saved bytes hold; what a
+/// replacement met; and on a record whose numbers do not rise.
 fn ways_of(call: Call) -> Vec<&'static str> {
-    if call == Call::Visible || allowed(call, 5) { HIDERS.to_vec() } else { stores::ways_of(call) }
+    let hiders = if call == Call::Visible || allowed(call, 5) { HIDERS.as_slice() } else { &[] };
+    let replacements = if call == Call::Replace { REPLACEMENTS.as_slice() } else { &[] };
+    let unordered = if call.examines() { [UNORDERED].as_slice() } else { &[] };
+    [hiders, &stores::ways_of(call), &saves::ways_of(call), replacements, unordered].concat()
+}
+
+/// The ways in which a call came to this answer.
+fn ways(request: &Request, refusal: u32) -> Vec<&'static str> {
+    let call = request.call;
+    let mut ways = Vec::new();
+    if refusal == 5 || (call == Call::Visible && refusal == 0) {
+        ways.extend(hider(&request.not_shown()));
+    }
+    if call.has_store() {
+        ways.extend(stores::ways(request, refusal));
+    }
+    if call.loads() {
+        ways.extend(saves::way(request, refusal));
+    }
+    if call == Call::Replace && refusal == 0 {
+        ways.extend(replacement(request));
+    }
+    if call.examines() && refusal == 0 && !rises(&request.words) {
+        ways.push(UNORDERED);
+    }
+    ways
+}
+
+/// The clauses of soundness, S2 by its two halves.
+const CLAUSES: [&str; 9] = ["S1", "S2, a number twice", "S2, one not below word 1", "S3", "S4", "S5", "S6", "S7", "S8"];
+
+/// The clause that alone fails of an unsound record; none where there are several.
+fn failing(words: &[u32]) -> Option<&'static str> {
+    let [clause] = broken(words)[..] else { return None };
+    if clause != 2 {
+        return CLAUSES.into_iter().find(|name| *name == format!("S{clause}"));
+    }
+    let below = rows(words).iter().all(|row| row.document < words[1]);
+    let mut numbers: Vec<u32> = rows(words).iter().map(|row| row.document).collect();
+    numbers.sort();
+    let distinct = numbers.windows(2).all(|pair| pair[0] < pair[1]);
+    (below != distinct).then_some(CLAUSES[1 + distinct as usize])
 }
 
 #[derive(Default)]
 pub struct Seen {
     pairs: BTreeMap<(Call, u32), u64>,
     structs: BTreeMap<u32, u64>,
-    clauses: BTreeMap<u8, u64>,
+    clauses: BTreeMap<&'static str, u64>,
     ways: BTreeMap<(Call, &'static str), u64>,
     differing: BTreeMap<Call, u64>,
 }
@@ -62,13 +120,9 @@ impl Seen {
             *self.structs.entry(refusal).or_default() += 1;
         }
         if refusal == 2 {
-            if let [clause] = broken(&request.words)[..] {
-                *self.clauses.entry(clause).or_default() += 1;
-            }
+            failing(&request.words).into_iter().for_each(|clause| *self.clauses.entry(clause).or_default() += 1);
         }
-        let hider = if refusal == 5 || (call == Call::Visible && refusal == 0) { hider(&request.not_shown()) } else { None };
-        let ways = if call.has_store() { stores::ways(request, refusal) } else { vec![] };
-        hider.into_iter().chain(ways).for_each(|way| *self.ways.entry((call, way)).or_default() += 1);
+        ways(request, refusal).into_iter().for_each(|way| *self.ways.entry((call, way)).or_default() += 1);
     }
 
     pub fn note_difference(&mut self, call: Call) {
@@ -89,13 +143,13 @@ impl Seen {
         let pairs = CALLS.iter().flat_map(|&call| NUMBERS.map(move |refusal| (call, refusal)));
         let pairs = pairs.filter(|&(call, refusal)| allowed(call, refusal) && !self.pairs.contains_key(&(call, refusal)));
         let structs = NUMBERS.filter(|&refusal| allowed(Call::Traverse, refusal) && !self.structs.contains_key(&refusal));
-        let clauses = (1..=8).filter(|clause| !self.clauses.contains_key(clause));
+        let clauses = CLAUSES.into_iter().filter(|clause| !self.clauses.contains_key(clause));
         let ways = CALLS.iter().flat_map(|&call| ways_of(call).into_iter().map(move |way| (call, way)));
         let ways = ways.filter(|pair| !self.ways.contains_key(pair));
         pairs
             .map(|(call, refusal)| format!("{call:?} giving {refusal}"))
             .chain(structs.map(|refusal| format!("Traverse with structs giving {refusal}")))
-            .chain(clauses.map(|clause| format!("S{clause} failing alone")))
+            .chain(clauses.map(|clause| format!("{clause}, failing alone")))
             .chain(ways.map(|(call, way)| format!("{call:?}: {way}")))
             .collect()
     }
@@ -108,7 +162,7 @@ impl Seen {
         }
         let structs = self.structs.iter().map(|(refusal, count)| format!("{refusal}: {count}"));
         println!("  {:11} {}", "structs", structs.collect::<Vec<_>>().join("  "));
-        let clauses = self.clauses.iter().map(|(clause, count)| format!("S{clause}: {count}"));
+        let clauses = self.clauses.iter().map(|(clause, count)| format!("{clause}: {count}"));
         println!("  {:11} {}", "alone", clauses.collect::<Vec<_>>().join("  "));
         for call in CALLS.into_iter().filter(|&call| !ways_of(call).is_empty()) {
             let counts = ways_of(call).into_iter().filter_map(|way| self.ways.get(&(call, way)).map(|count| format!("{way}: {count}")));

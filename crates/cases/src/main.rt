@@ -1,4 +1,4 @@
-// Document 01's P1 to P12, the cases of Drop and of who hides a document, run: every call's answer, and of the record at the end its position, length and
+// Document 01's P1 to P12, the cases of Drop, of who hides a document and of Replace, run: every call's answer, and of the record at the end its position, length and
 // visible documents.
 use asks::Sight;
 use asks::Standing;
@@ -10,6 +10,7 @@ use drops::Dropped;
 use moves::Freshened;
 use moves::Opened;
 use navigates::Navigated;
+use replaces::Replaced;
 use traverses::Traversed;
 
 // No parent.
@@ -99,6 +100,21 @@ fn take_out(words: &mut [u32], frame: u32) {
     }
 }
 
+// Replace, told.
+fn replace(words: &mut [u32], document: u32) {
+    say(b"  replace ");
+    say_word(document);
+    say(b": ");
+    match replaces::replace(words, DocNo(document)) {
+        Replaced::Arrived(d) => {
+            say(b"document ");
+            say_word(d.0);
+            say(b"\n");
+        }
+        Replaced::Refused(r) => say_refused(r),
+    }
+}
+
 // The sign and magnitude of an amount.
 fn say_amount(delta: i32) {
     if delta < 0 {
@@ -175,7 +191,7 @@ fn say_visible(words: &[u32], d: u32) {
     }
 }
 
-// Those of documents 0 to 6 that are visible.
+// Those of documents 0 to 8 that are visible.
 fn say_documents(words: &[u32]) {
     say_visible(words, 0);
     say_visible(words, 1);
@@ -184,6 +200,8 @@ fn say_documents(words: &[u32]) {
     say_visible(words, 4);
     say_visible(words, 5);
     say_visible(words, 6);
+    say_visible(words, 7);
+    say_visible(words, 8);
 }
 
 // Position, steps, length and visible documents of a record.
@@ -521,6 +539,123 @@ fn nested() {
     stand(&words);
 }
 
+// A login page: of a fresh window, and of one that came to it by a link.
+fn r1_and_r2() {
+    say(b"R1\n");
+    let mut words = [7u32; 35];
+    fresh(&mut words);
+    replace(&mut words, 0);
+    go(&mut words, -1);
+    stand(&words);
+    say(b"R2\n");
+    let mut linked = [7u32; 35];
+    fresh(&mut linked);
+    navigate(&mut linked, 0);
+    replace(&mut linked, 1);
+    go(&mut linked, -1);
+    go(&mut linked, 1);
+    stand(&linked);
+}
+
+// X, document 1, beneath which a step is taken; replaced twice.
+fn r3_and_r4() {
+    say(b"R3\n");
+    let mut words = record_x();
+    replace(&mut words, 1);
+    stand(&words);
+    say(b"R4\n");
+    replace(&mut words, 6);
+    replace(&mut words, 6);
+    stand(&words);
+}
+
+// X: a taken step with nothing beneath it, the root, and documents that are in no row or not visible.
+fn r5_to_r7() {
+    say(b"R5\n");
+    let mut step = record_x();
+    replace(&mut step, 4);
+    stand(&step);
+    say(b"R6\n");
+    let mut root = record_x();
+    replace(&mut root, 0);
+    stand(&root);
+    say(b"R7\n");
+    let mut words = record_x();
+    replace(&mut words, 9);
+    replace(&mut words, 2);
+    replace(&mut words, 5);
+    stand(&words);
+}
+
+// Documents 1, 3, 6 in frame 1, of which 3 is shown, and 2, 4, 5 in frame 2, of which 4 is: two steps are upcoming.
+fn crossing() -> [u32; 31] {
+    [
+        7,
+        7,
+        3,
+        0,
+        0,
+        NONE,
+        1,
+        1,
+        1,
+        0,
+        0,
+        2,
+        2,
+        0,
+        0,
+        3,
+        1,
+        0,
+        1,
+        4,
+        2,
+        0,
+        1,
+        5,
+        2,
+        0,
+        0,
+        6,
+        1,
+        0,
+        0,
+    ]
+}
+
+// Upcoming steps of both frames stay, and go on.
+fn r8_and_r9() {
+    say(b"R8\n");
+    let mut words = crossing();
+    replace(&mut words, 3);
+    stand(&words);
+    say(b"R9\n");
+    go(&mut words, 1);
+    go(&mut words, 1);
+    replace(&mut words, 5);
+    stand(&words);
+}
+
+// An upcoming step of the root frame stays; no number comes back, and no row more is needed.
+fn r10_and_r11() {
+    say(b"R10\n");
+    let mut words = [7u32; 35];
+    fresh(&mut words);
+    navigate(&mut words, 0);
+    go(&mut words, -1);
+    replace(&mut words, 0);
+    stand(&words);
+    say(b"R11\n");
+    let mut few = [7u32; 11];
+    fresh(&mut few);
+    open(&mut few, 0);
+    replace(&mut few, 1);
+    replace(&mut few, 0);
+    open(&mut few, 3);
+    stand(&few);
+}
+
 // Record of 6 words, and of 7.
 fn small_records() {
     say(b"6 words\n");
@@ -551,5 +686,10 @@ fn main() {
     d8_and_d9();
     d10();
     nested();
+    r1_and_r2();
+    r3_and_r4();
+    r5_to_r7();
+    r8_and_r9();
+    r10_and_r11();
     small_records();
 }

@@ -1,9 +1,10 @@
-// Saved bytes, whole and damaged, loaded: what Load answers, and whether a refused record reads as before.
+// Saved bytes, whole and damaged, loaded: what the loading calls answer, and whether a refused record reads as before.
 //
-// The bytes are those of document 01's record X: 4 frames, next numbers 6 and 4; entries (frame, parent, documents, shown place) from byte 12 on, (0, none, 1, 0), (1, 0, 2, 0),
-// (2, 1, 2, 1), (3, 0, 1, 0); documents from byte 76 on: 0; 1, 5; 2, 4; 3.
-use loads::Loading;
+// The bytes are those of document 01's record X: 4 frames, next numbers 6 and 4; frames (number, parent, documents, shown place) from byte 12 on, (0, none, 1, 0), (1, 0, 2, 0),
+// (2, 1, 2, 1), (3, 0, 1, 0); then from byte 76 on documents, each with its row place, which is the same number: 0; 1, 5; 2, 4; 3. In the old form there are only the documents.
 use saved::Saving;
+use told::Loading;
+ghost use Prim.Native.Nat.{_<_};
 
 // No parent.
 const NONE: u32 = 4294967295;
@@ -59,18 +60,59 @@ fn record_x() -> [u32; 35] {
     ]
 }
 
+// Bytes of a form: so many of these, and whether it is the old one.
+struct Form {
+    bytes: [u8; 125],
+    len: usize,
+    old: bool,
+}
+
 // X as saved.
-fn saved_x() -> [u8; 100] {
-    let mut bytes = [0u8; 100];
+fn saved_x() -> Form {
+    let mut bytes = [0u8; 125];
+    let mut len = 0;
     match saved::save(&record_x(), &mut bytes) {
         Saving::Length(n) => {
             say(b"X has ");
             say_number(n as u64);
             say(b" bytes\n");
+            len = n;
         }
         Saving::Refused(_) => say(b"X is refused\n"),
     }
-    bytes
+    Form {
+        bytes,
+        len,
+        old: false,
+    }
+}
+
+// Where byte k of the old form stands in the new one: the contents are the same, and of each entry the document comes first.
+fn source(k: usize) -> usize
+    requires { ⌜ k < 100 ⌝ }
+    ensures { λ r. ⌜ r < 125 ⌝ }
+{
+    if k < 76 {
+        return k;
+    }
+    let i = k - 76;
+    76 + 8 * (i / 4) + i % 4
+}
+
+// X as it was saved in the old form.
+fn old_x(whole: Form) -> Form {
+    let from = whole.bytes;
+    let mut bytes = [0u8; 125];
+    let mut k = 0;
+    while k < 100 {
+        bytes[k] = from[source(k)];
+        k += 1;
+    }
+    Form {
+        bytes,
+        len: 100,
+        old: true,
+    }
 }
 
 // Whether every word is 7.
@@ -85,11 +127,19 @@ fn all_sevens(words: &[u32]) -> bool {
     true
 }
 
+// Loads bytes by one call or the other.
+fn load(old: bool, words: &mut [u32], bytes: &[u8]) -> Loading {
+    if old {
+        return loads_old::load_old(words, bytes);
+    }
+    loads::load(words, bytes)
+}
+
 // Loads bytes over sevens, and tells the answer.
-fn load_over(name: &[u8], words: &mut [u32], bytes: &[u8]) {
+fn load_over(name: &[u8], old: bool, words: &mut [u32], bytes: &[u8]) {
     say(name);
     say(b": ");
-    match loads::load(words, bytes) {
+    match load(old, words, bytes) {
         Loading::Rows(n) => {
             say_number(n as u64);
             say(b" rows\n");
@@ -106,10 +156,18 @@ fn load_over(name: &[u8], words: &mut [u32], bytes: &[u8]) {
     }
 }
 
-// Loads bytes into a record of 8 rows.
-fn load(name: &[u8], bytes: &[u8]) {
+// Loads the first n bytes, where there are so many.
+fn load_first(name: &[u8], old: bool, words: &mut [u32], bytes: &[u8], n: usize) {
+    if n <= bytes.len() {
+        load_over(name, old, words, &bytes[0..n]);
+    }
+}
+
+// Loads the first n bytes of a form into a record of 8 rows.
+fn cut(name: &[u8], f: Form, n: usize) {
+    let bytes = f.bytes;
     let mut words = [7u32; 35];
-    load_over(name, &mut words, bytes);
+    load_first(name, f.old, &mut words, &bytes, n);
 }
 
 // Puts a byte, where there is one.
@@ -119,97 +177,121 @@ fn put(bytes: &mut [u8], at: usize, v: u8) {
     }
 }
 
-// Loads bytes with one of them changed.
-fn changed(name: &[u8], whole: [u8; 100], at: usize, v: u8) {
-    let mut bytes = whole;
-    put(&mut bytes, at, v);
-    load(name, &bytes);
-}
-
 // Loads bytes with two of them changed.
-fn changed_twice(name: &[u8], whole: [u8; 100], at: usize, v: u8, and: usize, w: u8) {
-    let mut bytes = whole;
+fn changed_twice(name: &[u8], f: Form, at: usize, v: u8, and: usize, w: u8) {
+    let mut bytes = f.bytes;
     put(&mut bytes, at, v);
     put(&mut bytes, and, w);
-    load(name, &bytes);
-}
-
-// Loads the first n bytes.
-fn load_first(name: &[u8], words: &mut [u32], bytes: &[u8], n: usize) {
-    if n <= bytes.len() {
-        load_over(name, words, &bytes[0..n]);
-    }
-}
-
-// Loads the first n bytes into a record of 8 rows.
-fn cut(name: &[u8], whole: [u8; 100], n: usize) {
     let mut words = [7u32; 35];
-    load_first(name, &mut words, &whole, n);
+    load_first(name, f.old, &mut words, &bytes, f.len);
+}
+
+// Loads bytes with one of them changed.
+fn changed(name: &[u8], f: Form, at: usize, v: u8) {
+    changed_twice(name, f, at, v, at, v);
 }
 
 // Too few bytes, and too many.
-fn lengths(whole: [u8; 100]) {
-    cut(b"whole", whole, 100);
-    cut(b"no bytes", whole, 0);
-    cut(b"11 bytes", whole, 11);
-    cut(b"12 bytes", whole, 12);
-    cut(b"96 bytes", whole, 96);
-    cut(b"99 bytes", whole, 99);
-    let mut more = [0u8; 101];
-    saved::save(&record_x(), &mut more);
-    load(b"a byte more", &more);
+fn lengths(f: Form) {
+    let n = f.len;
+    cut(b"whole", f, n);
+    cut(b"no bytes", f, 0);
+    cut(b"11 bytes", f, 11);
+    cut(b"12 bytes", f, 12);
+    if 4 <= n {
+        cut(b"4 bytes fewer", f, n - 4);
+        cut(b"a byte fewer", f, n - 1);
+    }
+    if n < 125 {
+        cut(b"a byte more", f, n + 1);
+    }
 }
 
 // Counts that tell of another length, past 32 and 64 bits too.
-fn counts(whole: [u8; 100]) {
-    changed(b"no frame", whole, 3, 0);
-    changed(b"five frames", whole, 3, 5);
-    changed(b"2^28 frames more", whole, 0, 16);
-    changed(b"2^31 frames more", whole, 0, 128);
-    changed(b"a frame with no document", whole, 23, 0);
-    changed(b"2^30 documents more", whole, 20, 64);
-    changed_twice(b"2^32 bytes of documents", whole, 20, 64, 36, 192);
+fn counts(f: Form) {
+    changed(b"no frame", f, 3, 0);
+    changed(b"five frames", f, 3, 5);
+    changed(b"2^28 frames more", f, 0, 16);
+    changed(b"2^31 frames more", f, 0, 128);
+    changed(b"a frame with no document", f, 23, 0);
+    changed(b"2^30 documents more", f, 20, 64);
+    changed_twice(b"2^32 bytes of documents", f, 20, 64, 36, 192);
 }
 
-// Frames and documents that Save would not write so.
-fn orders(whole: [u8; 100]) {
-    changed_twice(b"frames out of order", whole, 31, 2, 47, 1);
-    changed(b"one frame twice", whole, 47, 1);
-    changed_twice(b"documents out of order", whole, 83, 5, 87, 1);
-    changed(b"a document of two frames", whole, 91, 1);
-    changed(b"shown place not below the count", whole, 27, 1);
-    changed(b"a shown place past 2^24", whole, 40, 1);
+// Frames that Save would not write so.
+fn frames(f: Form) {
+    changed_twice(b"frames out of order", f, 31, 2, 47, 1);
+    changed(b"one frame twice", f, 47, 1);
+    changed(b"shown place not below the count", f, 27, 1);
+    changed(b"a shown place past 2^24", f, 40, 1);
+}
+
+// Entries that Save would not write so, and two documents in another order, which it would.
+fn entries(f: Form) {
+    changed(b"a document of two frames", f, 103, 1);
+    changed_twice(b"a child before its parent", f, 87, 5, 95, 1);
+    changed_twice(b"row places out of order", f, 91, 5, 99, 1);
+    changed(b"a row place twice", f, 107, 1);
+    changed(b"a row place past the rows", f, 123, 6);
+    changed(b"a row place past 2^24", f, 120, 1);
+    changed_twice(b"documents out of order", f, 103, 4, 111, 2);
+}
+
+// Documents that Save would not have written so.
+fn documents(f: Form) {
+    changed(b"a document of two frames", f, 91, 1);
+    changed_twice(b"documents out of order", f, 91, 4, 95, 2);
 }
 
 // Bytes of the right shape that tell an unsound record, and two that tell a sound one.
-fn records(whole: [u8; 100]) {
-    changed(b"next document in use", whole, 7, 5);
-    changed(b"next frame in use", whole, 11, 3);
-    changed(b"a parent later than its child", whole, 67, 4);
-    changed(b"a parent that is not there", whole, 67, 9);
-    changed(b"a root with a parent", whole, 16, 0);
-    changed_twice(b"5 shown while 4 is upcoming", whole, 43, 1, 59, 0);
-    changed(b"another next document", whole, 7, 9);
-    changed(b"5 shown", whole, 43, 1);
+fn records(f: Form) {
+    changed(b"next document in use", f, 7, 5);
+    changed(b"next frame in use", f, 11, 3);
+    changed(b"a parent later than its child", f, 67, 4);
+    changed(b"a parent that is not there", f, 67, 9);
+    changed(b"a root with a parent", f, 16, 0);
+    changed_twice(b"5 shown while 4 is upcoming", f, 43, 1, 59, 0);
+    changed(b"another next document", f, 7, 9);
+    changed(b"5 shown", f, 43, 1);
 }
 
 // Records with too little room: 3 goes before 7, 1 before both.
-fn rooms(whole: [u8; 100]) {
+fn rooms(f: Form) {
+    let bytes = f.bytes;
     let mut five = [7u32; 23];
-    load_over(b"room for five", &mut five, &whole);
-    load_first(b"room for five, 99 bytes", &mut five, &whole, 99);
+    load_first(b"room for five", f.old, &mut five, &bytes, f.len);
+    load_first(b"room for five, 99 bytes", f.old, &mut five, &bytes, 99);
     let mut six = [7u32; 6];
-    load_over(b"6 words", &mut six, &whole);
-    load_first(b"6 words, no bytes", &mut six, &whole, 0);
+    load_first(b"6 words", f.old, &mut six, &bytes, f.len);
+    load_first(b"6 words, no bytes", f.old, &mut six, &bytes, 0);
     let mut enough = [7u32; 27];
-    load_over(b"room for six", &mut enough, &whole);
+    load_first(b"room for six", f.old, &mut enough, &bytes, f.len);
+}
+
+// What both forms have alike.
+fn either(f: Form) {
+    lengths(f);
+    counts(f);
+    frames(f);
+    records(f);
+    rooms(f);
+}
+
+// The bytes of one form, given to the other's call.
+fn other(name: &[u8], f: Form) {
+    let bytes = f.bytes;
+    let mut words = [7u32; 35];
+    load_first(name, !f.old, &mut words, &bytes, f.len);
 }
 
 fn main() {
     let whole = saved_x();
-    lengths(whole);
-    counts(whole);
-    orders(whole);
-    records(whole);
-    rooms(whole);
+    either(whole);
+    entries(whole);
+    other(b"to the old form's call", whole);
+    say(b"The old form\n");
+    let old = old_x(whole);
+    either(old);
+    documents(old);
+    other(b"to the new form's call", old);
 }

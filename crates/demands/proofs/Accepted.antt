@@ -9,7 +9,7 @@ use lib.ListN.{length, getD}
 use borrow.Author.Tests.{ltb-false, le-ltb, not-false}
 use Rattle.rules.specs.Rows.{Table}
 use Rattle.rules.specs.Steps.{position, steps}
-use Rattle.rules.specs.Moves.{opened, navigated, traversed, dropped, changes}
+use Rattle.rules.specs.Moves.{opened, navigated, traversed, dropped, replaced, changes}
 use Rattle.rules.specs.Words.{tableOf, rowsOf, written}
 use Rattle.rules.specs.Sound.{Sound}
 use Rattle.rules.specs.Calls.{Call, Answer, outside, refusals, accepted, outcome, Given, NoneGiven}
@@ -61,6 +61,7 @@ made t (Move.opens p) = opened t p
 made t (Move.navigates d) = navigated t d
 made t (Move.goes δ room) = traversed t δ
 made t (Move.drops f) = dropped t f
+made t (Move.replaces d) = replaced t d
 
 pub accepted-after : (words : List ℕ) (m : Move) → NoneGiven (refusals (on words m)) → after words m ≡ written words (made (tableOf words) m)
 unfolding accepted
@@ -68,12 +69,14 @@ accepted-after words (Move.opens p) h = ap (λ o. getD (o .lent) 0 []) (outcome-
 accepted-after words (Move.navigates d) h = ap (λ o. getD (o .lent) 0 []) (outcome-accepted _ h)
 accepted-after words (Move.goes δ room) h = ap (λ o. getD (o .lent) 0 []) (outcome-accepted _ h)
 accepted-after words (Move.drops f) h = ap (λ o. getD (o .lent) 0 []) (outcome-accepted _ h)
+accepted-after words (Move.replaces d) h = ap (λ o. getD (o .lent) 0 []) (outcome-accepted _ h)
 
 pub refused-after : (words : List ℕ) (m : Move) (k : ℕ) (vs : List ℕ) → Given k vs (refusals (on words m)) → after words m ≡ words
 refused-after words (Move.opens p) k vs g = ap (λ o. getD (o .lent) 0 []) (outcome-refused _ k vs g)
 refused-after words (Move.navigates d) k vs g = ap (λ o. getD (o .lent) 0 []) (outcome-refused _ k vs g)
 refused-after words (Move.goes δ room) k vs g = ap (λ o. getD (o .lent) 0 []) (outcome-refused _ k vs g)
 refused-after words (Move.drops f) k vs g = ap (λ o. getD (o .lent) 0 []) (outcome-refused _ k vs g)
+refused-after words (Move.replaces d) k vs g = ap (λ o. getD (o .lent) 0 []) (outcome-refused _ k vs g)
 
 -- By whether a move is accepted.
 pub by-move {ℓ} : {C : Type ℓ} (words : List ℕ) (m : Move) →

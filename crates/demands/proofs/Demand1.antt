@@ -10,23 +10,26 @@ use lib.Ieee.{Float, nan, inf, fin}
 use lib.IntN.{ℤ, pos, negsuc, _+ℤ_}
 use lib.ListN.{length, replicate, length-replicate}
 use borrow.Author.Tests.{not-true, not-false, lt-ltb, eq-eqb, ne-eqb, eqb-true, eqb-false, leb-true, leb-false}
-use Rattle.rules.specs.Rows.{none, parentAt, inRecord, isFrame}
+use Rattle.rules.specs.Rows.{none, parentAt, inRecord, isFrame, Table}
 use Rattle.rules.specs.Steps.{position, steps, visible}
-use Rattle.rules.specs.Words.{capacity, rowsOf, written}
+use Rattle.rules.specs.Words.{capacity, tableOf, rowsOf, written}
 use Rattle.rules.specs.Asks.{stretched}
+use Rattle.rules.specs.Sound.{SoundTable, Sound}
 use Rattle.rules.specs.Saved.{parentOf, saved, loaded, fromSave?}
+use Rattle.rules.specs.OldSaved.{oldSaved, oldLoaded, S2rising, fromOldSave?}
 use Rattle.rules.specs.Below.{someBelow}
 use Rattle.rules.specs.Places.{Place, finite, finitePlace, scaled, entries, documentIn, kindIn, placeIn, isOf, sane, fineAt, fine?, placeOf, freed}
 use Rattle.rules.specs.Calls.{Call, Answer, Rung, _when_, _naming_, short, unsound, absent, hidden, hider, outside, noFrame, rootFrame, badPlaces, notFinite, overZoomed, noEntry, refusals, outcome, Given}
 use Rattle.laws.proofs.Tests.{test, clash, off, or-left, or-cases, and-both, some-out, all-fails-at}
-use Rattle.laws.proofs.Reflect.{Ref, ref-lt, ref-le, ref-eq, ref-or, ref-map, record-is, frame-is, sound-is}
+use Rattle.laws.proofs.Reflect.{Ref, ref-lt, ref-le, ref-eq, ref-or, ref-map, record-is, frame-is, sound-is, ref-not}
 use Rattle.laws.proofs.Tree.{parent-of}
 use Rattle.laws.proofs.Words.{table-written, written-sound}
 use Rattle.laws.proofs.Loads.{in-room, from-save-is, from-save-in}
+use Rattle.laws.proofs.OldLoads.{from-old-save-is, from-old-save-in}
 use Rattle.laws.proofs.Stores.{fine-out, freed-entries, freed-document, spot-past, past-spot}
 use Rattle.laws.proofs.Calls.{refused-when, refused-keeps}
 use Rattle.demands.proofs.Nearest.{hider-is, is-hider}
-use Rattle.demands.specs.Refuses.{Short, Unsound, SavedBySome, NotSaved, StandsAt, Absent, Hidden, Outside, RowOf, NoFrame, RootFrame, ParentHidden, Nearest, ParentNearest, Endless, NotFinite, BadPlaces, NoEntry, Line, _if_, _carrying_, lines, numbers, among, First, HoldsIn, Applies, Demand1, paper, SmallestFirst}
+use Rattle.demands.specs.Refuses.{Short, Unsound, SavedBySome, SavedThen, StandsAt, Absent, Hidden, Outside, RowOf, NoFrame, RootFrame, ParentHidden, Nearest, ParentNearest, Endless, NotFinite, BadPlaces, NoEntry, Line, _if_, _carrying_, lines, numbers, among, First, HoldsIn, Applies, Demand1, paper, SmallestFirst}
 
 -- A rung and a line say the same: the number, when, and what it carries then.
 record Agree (r : Rung) (l : Line) : Type 0 where
@@ -115,10 +118,6 @@ module _ (k : ℕ) (vs : List ℕ) where
 
 -- EACH CONDITION AND ITS TEST
 
-ref-not : {b : Bool} {P : Type 0} → Ref b P → Ref (not b) (P → ⊥)
-ref-not {b = true} r = (λ e. absurd (false≢true e), λ f. absurd (f (r .0 refl)))
-ref-not {b = false} r = (λ e p. false≢true (r .1 p), λ f. refl)
-
 short-is : (words : List ℕ) → Ref (short words) (Short words)
 short-is words = ref-lt (length words) 7
 
@@ -189,21 +188,35 @@ pub outside-is : (n : ℕ) (δ : ℤ) → Ref (outside n δ) (Outside n δ)
 outside-is n (pos q) = ref-lt n q
 outside-is n (negsuc q) = (λ e. tt, λ u. refl)
 
--- Bytes that pass are those of the record that they tell, in a run of words with room for 512 rows.
-pub saved-is : (bytes : List ℕ) → Ref (fromSave? bytes) (SavedBySome bytes)
+-- A sound table is that of a record, in a run of words with room for 512 rows.
+record-of : (t : Table) → SoundTable 512 t → (words : List ℕ) × Sound words × (tableOf words ≡ t)
+record-of t s =
+    let blank : List ℕ = replicate 2051 0 in
+    let c : length blank ≡ 2051 = length-replicate {A = ℕ} 2051 0 in
+    let fits : length (t .rows) ≤ capacity blank = omega (arith, s .s1 .fits) in
+    let long : 3 ≤ length blank = omega arith in
+    (written blank t, written-sound blank t long (in-room _ s fits), table-written blank t long fits)
+
+-- And a sound record's table has at most 512 rows.
+pub table-of : (words : List ℕ) → Sound words → SoundTable 512 (tableOf words)
+table-of words s = in-room 512 (s .table) (omega (arith, s .table .s1 .fits))
+
+-- Bytes that pass are those of the record that they tell.
+saved-is : (bytes : List ℕ) → Ref (fromSave? bytes) (SavedBySome bytes)
 saved-is bytes = (
-  λ h.
-      let s = from-save-is bytes .0 h in
-      let blank : List ℕ = replicate 2051 0 in
-      let c : length blank ≡ 2051 = length-replicate {A = ℕ} 2051 0 in
-      let fits : length (loaded bytes .rows) ≤ capacity blank = omega (arith, s .0 .s1 .fits) in
-      let long : 3 ≤ length blank = omega arith in
-      (written blank (loaded bytes), written-sound blank (loaded bytes) long (in-room _ (s .0) fits), ap saved (table-written blank (loaded bytes) long fits) ∙ s .1),
-  λ w. subst (λ b. So (fromSave? b)) (w .2) (from-save-in _ (in-room 512 (w .1 .table) (omega (arith, w .1 .table .s1 .fits)))),
+  λ h. let s = from-save-is bytes .0 h in let r = record-of (loaded bytes) (s .0) in (r .0, r .1, ap saved (r .2) ∙ s .1),
+  λ w. subst (λ b. So (fromSave? b)) (w .2) (from-save-in _ (table-of (w .0) (w .1))),
 )
 
-not-saved-is : (bytes : List ℕ) → Ref (not (fromSave? bytes)) (NotSaved bytes)
-not-saved-is bytes = ref-not (saved-is bytes)
+-- And so in the old form.
+saved-then-is : (bytes : List ℕ) → Ref (fromOldSave? bytes) (SavedThen bytes)
+saved-then-is bytes = (
+  λ h.
+      let s = from-old-save-is bytes .0 h in
+      let r = record-of (oldLoaded bytes) (s .0 .sound) in
+      (r .0, r .1, subst (λ (t : Table). S2rising (t .rows) (t .nextDoc)) (sym (r .2)) (s .0 .order), ap oldSaved (r .2) ∙ s .1),
+  λ w. subst (λ b. So (fromOldSave? b)) (w .3) (from-old-save-in _ (record { sound = table-of (w .0) (w .1); order = w .2 })),
+)
 
 -- SCROLL PLACES
 
@@ -282,6 +295,7 @@ listed (Call.Open words parent) = refl
 listed (Call.Navigate words from) = refl
 listed (Call.Traverse words δ room) = refl
 listed (Call.Drop words frame) = refl
+listed (Call.Replace words d) = refl
 listed (Call.Position words) = refl
 listed (Call.Visible words d) = refl
 listed (Call.Lists words takens upcomings) = refl
@@ -290,6 +304,7 @@ listed (Call.StretchCount takens upcomings δ) = refl
 listed (Call.Outline words room) = refl
 listed (Call.Save words room) = refl
 listed (Call.Load words bytes) = refl
+listed (Call.LoadOld words bytes) = refl
 listed (Call.SetPlace words places d place) = refl
 listed (Call.AskPlace words places d) = refl
 listed (Call.AskAtZoom words places d zoom) = refl
@@ -311,6 +326,8 @@ match (Call.Traverse words δ room) =
     on-record words (λ s. (alone (outside-is (steps (rowsOf words)) (pos (position (rowsOf words)) +ℤ δ)), λ f. (alone (ref-lt _ _), λ f. tt)))
 match (Call.Drop words frame) =
     on-record words (λ s. (alone (no-frame-is words frame), λ f. (alone (root-frame-is words frame s f), λ r. (parent-five words frame s f r, λ f. tt))))
+match (Call.Replace words d) =
+    on-record words (λ s. (alone (absent-is words d), λ f. (hidden-five words d s f, λ f. (alone (ref-eq _ _), λ f. tt))))
 match (Call.Position words) = on-record words (λ s. tt)
 match (Call.Visible words d) = on-record words (λ s. (alone (absent-is words d), λ f. tt))
 match (Call.Lists words takens upcomings) = on-record words (λ s. (alone (ref-or (ref-lt _ _) (ref-lt _ _)), λ f. tt))
@@ -318,7 +335,8 @@ match (Call.Stretch takens upcomings δ) = tt
 match (Call.StretchCount takens upcomings δ) = (alone (ref-lt _ _), λ f. tt)
 match (Call.Outline words room) = on-record words (λ s. (alone (ref-lt _ _), λ f. tt))
 match (Call.Save words room) = on-record words (λ s. (alone (ref-lt _ _), λ f. tt))
-match (Call.Load words bytes) = (alone (short-is words), λ f. (alone (not-saved-is bytes), λ f. (alone (ref-lt _ _), λ f. tt)))
+match (Call.Load words bytes) = (alone (short-is words), λ f. (alone (ref-not (saved-is bytes)), λ f. (alone (ref-lt _ _), λ f. tt)))
+match (Call.LoadOld words bytes) = (alone (short-is words), λ f. (alone (ref-not (saved-then-is bytes)), λ f. (alone (ref-lt _ _), λ f. tt)))
 match (Call.SetPlace words places d place) =
     on-record words (λ s. (alone (bad-is places), λ f. (alone (absent-is words d), λ f. (alone (not-finite-is place), λ f. (alone (no-entry-is words places d), λ f. tt)))))
 match (Call.AskPlace words places d) = on-record words (λ s. (alone (bad-is places), λ f. (alone (absent-is words d), λ f. tt)))
@@ -394,6 +412,7 @@ rise (Call.Open words parent) first = (omega arith, (omega arith, (omega arith, 
 rise (Call.Navigate words from) first = (omega arith, (omega arith, (omega arith, (omega arith, (omega arith, (omega arith, tt))))))
 rise (Call.Traverse words δ room) first = (omega arith, (omega arith, (omega arith, (omega arith, tt))))
 rise (Call.Drop words frame) first = absurd (omega arith)
+rise (Call.Replace words d) first = absurd (omega arith)
 rise (Call.Position words) first = (omega arith, (omega arith, tt))
 rise (Call.Visible words d) first = (omega arith, (omega arith, (omega arith, tt)))
 rise (Call.Lists words takens upcomings) first = (omega arith, (omega arith, (omega arith, tt)))
@@ -402,6 +421,7 @@ rise (Call.StretchCount takens upcomings δ) first = (omega arith, tt)
 rise (Call.Outline words room) first = (omega arith, (omega arith, (omega arith, tt)))
 rise (Call.Save words room) first = (omega arith, (omega arith, (omega arith, tt)))
 rise (Call.Load words bytes) first = (omega arith, (omega arith, (omega arith, tt)))
+rise (Call.LoadOld words bytes) first = (omega arith, (omega arith, (omega arith, tt)))
 rise (Call.SetPlace words places d place) first = absurd (omega arith)
 rise (Call.AskPlace words places d) first = absurd (omega arith)
 rise (Call.AskAtZoom words places d zoom) first = absurd (omega arith)

@@ -24,7 +24,7 @@ use Rattle.demands.specs.Follows.{ofRows, historyOf, OfFrame, FollowsMod
 use Rattle.demands.proofs.Accepted.{accepted-none, accepted-after, go-relies}
 use Rattle.demands.proofs.Lasting.{lasting, lasting-rows, table-after}
 use Rattle.demands.proofs.Demand1.{first-holds, demand1, outside-is}
-use Rattle.demands.proofs.Saving.{undo-each-other}
+use Rattle.demands.proofs.Saving.{undo-each-other, takes-old}
 use Rattle.demands.proofs.Traverses.{traversed-inside, walk-model, theorem-1}
 use Rattle.demands.proofs.Shape.{is-history, well-formed, one-root}
 use Rattle.demands.proofs.Active.{visible-active}
@@ -118,4 +118,4 @@ module _ (words : List ℕ) (wide : Words32 words) (s : Sound words) where
 
 -- "Navigating and traversing give the record that the fully patched model of source document 001 gives [..] Saving and loading undo each other"
 pub demand2 : Demand2
-demand2 = record { model = follows-model; saving = undo-each-other }
+demand2 = record { model = follows-model; saving = undo-each-other; old = takes-old }

@@ -60,5 +60,8 @@ refusal-five-carries =
       removal = λ words frame vs e.
           passed (λ e. omega arith) (passed (λ e. omega arith) (passed (λ e. omega arith) (passed (λ e. omega arith) (says none-left))))
           (demand1 (Call.Drop words frame) .exactly 5 vs .0 e);
+      replacing = λ words d vs e.
+          passed (λ e. omega arith) (passed (λ e. omega arith) (passed (λ e. omega arith) (says (passed (λ e. omega arith) none-left))))
+          (demand1 (Call.Replace words d) .exactly 5 vs .0 e);
       others = number-alone;
     }

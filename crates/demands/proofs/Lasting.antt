@@ -6,7 +6,7 @@ use native.Mathlib.Omega.{arith}
 use lib.IntN.{ℤ}
 use lib.ListN.{length}
 use Rattle.rules.specs.Rows.{Table, none}
-use Rattle.rules.specs.Moves.{opened, cleared, navigated, traversed, dropped}
+use Rattle.rules.specs.Moves.{opened, cleared, navigated, traversed, dropped, replaced}
 use Rattle.rules.specs.Words.{capacity, tableOf, written}
 use Rattle.rules.specs.Sound.{SoundTable, Sound}
 use Rattle.rules.specs.Calls.{refusals, NoneGiven}
@@ -17,10 +17,11 @@ use Rattle.laws.proofs.Append.{length-snoc}
 use Rattle.laws.proofs.Tree.{sound-of}
 use Rattle.laws.proofs.Removal.{SoundRows, sound-rows}
 use Rattle.laws.proofs.Drop.{staysBut, dropped-length, dropped-sound, dropped-some}
+use Rattle.laws.proofs.Replace.{staysOver, replaced-length, replaced-sound, replaced-some}
 use Rattle.laws.proofs.Travel.{walked-at}
 use Rattle.laws.proofs.Navigate.{arrival, sound-at, opened-sound, navigated-at, navigated-sound}
 use Rattle.laws.proofs.Words.{table-written}
-use Rattle.laws.proofs.Accepted.{open-relies, navigate-relies, drop-relies}
+use Rattle.laws.proofs.Accepted.{open-relies, navigate-relies, drop-relies, replace-relies}
 use Rattle.demands.specs.Record.{Words32}
 use Rattle.demands.proofs.Accepted.{go-relies, made}
 
@@ -101,11 +102,27 @@ module _ (words : List ℕ) (wide : Words32 words) (s : Sound words) where
         frame = lasting words wide s .frame;
       }
 
+  replace-lasting : (d : ℕ) → NoneGiven (refusals (on words (Move.replaces d))) → Lasting (capacity words) (replaced t d)
+  unfolding replaced
+  replace-lasting d h =
+      let o = replace-relies words d h in
+      let few = count-most (staysOver d (t .rows)) (length (t .rows)) in
+      let n = replaced-length t d in
+      let b = s .table .s1 .fits in
+      let a = lasting words wide s .doc in
+      let a' = o .doc in
+      record {
+        sound = fill (replaced-sound t d rows (o .doc)) (replaced-some t d rows (o .there)) (omega arith);
+        doc = omega arith;
+        frame = lasting words wide s .frame;
+      }
+
   pub made-lasting : (m : Move) → NoneGiven (refusals (on words m)) → Lasting (capacity words) (made t m)
   made-lasting (Move.opens p) h = open-lasting p h
   made-lasting (Move.navigates d) h = navigate-lasting d h
   made-lasting (Move.goes δ room) h = go-lasting δ room h
   made-lasting (Move.drops f) h = drop-lasting f h
+  made-lasting (Move.replaces d) h = replace-lasting d h
 
   -- The table after an accepted move is the one made.
   pub table-after : (m : Move) → NoneGiven (refusals (on words m)) → after words m ≡ written words (made t m) → tableOf (after words m) ≡ made t m

@@ -1,7 +1,7 @@
 -- Words past 3 + 4C are neither read nor written. Assumes nothing.
 use Prim.Native.Nat.{ℕ, _+_, _*_, _≤_, _<_}
 use mathlib.Core.List.{List, [], _∷_}
-use mathlib.Core.Bool.{So}
+use mathlib.Core.Bool.{Bool, So}
 use mathlib.Core.Path.{_≡_, refl, sym, ap, _∙_, subst₂}
 use native.Mathlib.Omega.{arith}
 use lib.ListN.{length, getD, length-take}
@@ -9,19 +9,22 @@ use lib.Seq.{getD-take, take-at, drop-at}
 use borrow.Author.Tests.{ltb-true, ltb-false, leb-false, lt-ltb}
 use Rattle.rules.specs.Below.{tab}
 use Rattle.rules.specs.Rows.{Table}
-use Rattle.rules.specs.Moves.{freshTable, opened, cleared, navigated, traversed, dropped}
+use Rattle.rules.specs.Moves.{freshTable, opened, cleared, navigated, traversed, dropped, replaced}
 use Rattle.rules.specs.Words.{capacity, rowIn, tableOf, rowsOf, wordsOf, written}
 use Rattle.rules.specs.Sound.{SoundTable, Sound, sound?}
-use Rattle.rules.specs.Saved.{loaded}
+use Rattle.rules.specs.Saved.{loaded, fromSave?}
+use Rattle.rules.specs.OldSaved.{oldLoaded, fromOldSave?}
 use Rattle.rules.specs.Calls.{Call, Answer, Outcome, Rung, short, unsound, _when_, refusals, _leaving_, accepted, ladder, outcome, NoneGiven}
 use Rattle.laws.proofs.Tests.{test, same-tests, count-most, tab-same}
 use Rattle.laws.proofs.Reflect.{sound-is}
 use Rattle.laws.proofs.Drop.{staysBut, dropped-length}
+use Rattle.laws.proofs.Replace.{staysOver, replaced-length}
 use Rattle.laws.proofs.Navigate.{opened-length, navigated-length}
 use Rattle.laws.proofs.Travel.{walked-length}
 use Rattle.laws.proofs.Words.{rows-length, length-wordsOf, length-written, capacity-written, written-is}
 use Rattle.demands.specs.Past.{near, past, butPast, Kept, Spares, PastSpared}
 use Rattle.demands.proofs.Lasting.{long}
+use Rattle.laws.specs.Loading.{rungs, fills}
 
 -- TWO RUNS WITH THE SAME WORDS UP TO 3 + 4C
 
@@ -127,6 +130,17 @@ writes : (on : List ℕ → Call) (words : List ℕ) →
     ((other : List ℕ) → near words ≡ near other → Wrote words (outcome (on words)) (outcome (on other))) → Spares on words
 writes on words f = record { unread = λ other h. f other h .same; unwritten = f words refl .kept }
 
+-- A loading call.
+loads-alike : (words : List ℕ) (taken : Bool) (t : Table) (other : List ℕ) → near words ≡ near other →
+    Wrote words (ladder (rungs words taken t) (words ∷ []) (fills words t)) (ladder (rungs other taken t) (other ∷ []) (fills other t))
+unfolding NoneGiven
+loads-alike words taken t other h =
+    let c = capacity-same words other h in
+    rw (short-same words other h, c) (ladder-same (Wrote words) (wrote-nothing words other h []) _ (λ n.
+    let l : 7 ≤ length other = ltb-false _ _ (n .0) in
+    let f : length (t .rows) ≤ capacity other = ltb-false _ _ (n .1 .1 .0) in
+    wrote-table words other h t _ [] (omega arith) (omega arith)))
+
 -- "words past 3 + 4C are neither read nor written"
 pub past-spared : PastSpared
 unfolding outcome refusals accepted NoneGiven
@@ -169,6 +183,15 @@ past-spared (Call.Drop words frame) =
           let few = count-most (staysBut frame (rowsOf words)) (length (rowsOf words)) in
           rw (← ap (λ (u : Table). length (u .rows)) t, ← t) (wrote-table words other h (dropped (tableOf words) frame) _ [] (long words s) (omega (arith, dropped-length (tableOf words) frame))),
     )))
+past-spared (Call.Replace words d) =
+    writes _ words (λ other h.
+    guarded (Wrote words) (wrote-nothing words other h []) words other h (λ s t c. (
+      cc,
+      λ n.
+          let r = s .table .s1 .fits in
+          let few = count-most (staysOver d (rowsOf words)) (length (rowsOf words)) in
+          rw (← t) (wrote-table words other h (replaced (tableOf words) d) _ [] (long words s) (omega (arith, replaced-length (tableOf words) d))),
+    )))
 past-spared (Call.Position words) = λ other h. guarded _≡_ (λ k vs. refl) words other h (λ s t c. (cc, λ n. cc))
 past-spared (Call.Visible words d) = λ other h. guarded _≡_ (λ k vs. refl) words other h (λ s t c. (cc, λ n. cc))
 past-spared (Call.Lists words takens upcomings) = λ other h. guarded _≡_ (λ k vs. refl) words other h (λ s t c. (cc, λ n. cc))
@@ -176,13 +199,8 @@ past-spared (Call.Stretch takens upcomings δ) = tt
 past-spared (Call.StretchCount takens upcomings δ) = tt
 past-spared (Call.Outline words room) = λ other h. guarded _≡_ (λ k vs. refl) words other h (λ s t c. (cc, λ n. cc))
 past-spared (Call.Save words room) = λ other h. guarded _≡_ (λ k vs. refl) words other h (λ s t c. (cc, λ n. cc))
-past-spared (Call.Load words bytes) =
-    writes _ words (λ other h.
-    let c = capacity-same words other h in
-    rw (short-same words other h, c) (ladder-same (Wrote words) (wrote-nothing words other h []) _ (λ n.
-    let l : 7 ≤ length other = ltb-false _ _ (n .0) in
-    let f : length (loaded bytes .rows) ≤ capacity other = ltb-false _ _ (n .1 .1 .0) in
-    wrote-table words other h (loaded bytes) _ [] (omega arith) (omega arith))))
+past-spared (Call.Load words bytes) = writes _ words (loads-alike words (fromSave? bytes) (loaded bytes))
+past-spared (Call.LoadOld words bytes) = writes _ words (loads-alike words (fromOldSave? bytes) (oldLoaded bytes))
 past-spared (Call.SetPlace words places d place) = λ other h. guarded _≡_ (λ k vs. refl) words other h (λ s t c. (cc, λ n. cc))
 past-spared (Call.AskPlace words places d) = λ other h. guarded _≡_ (λ k vs. refl) words other h (λ s t c. (cc, λ n. cc))
 past-spared (Call.AskAtZoom words places d zoom) = λ other h. guarded _≡_ (λ k vs. refl) words other h (λ s t c. (cc, λ n. cc))

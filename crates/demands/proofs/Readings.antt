@@ -12,13 +12,13 @@ use borrow.Author.Tests.{eqb-true, eq-eqb, leb-true, le-leb, le-ltb, not-true}
 use Rattle.rules.specs.Below.{someBelow, allBelow, count, earliest, latest, tab, gather}
 use Rattle.rules.specs.Rows.{Row, Table, none, docAt, frameAt, isShown, inRecord, place, isFrame, withFlags, climb}
 use Rattle.rules.specs.Steps.{step, reach, taken, position, steps, climbOf, hiderOf, visible}
-use Rattle.rules.specs.Moves.{gone, without, hide, navigated, show, forward, backTarget, rowBefore, back, walked, shownDoc, changeRow, changes}
+use Rattle.rules.specs.Moves.{gone, without, hide, navigated, renamed, replaced, show, forward, backTarget, rowBefore, back, walked, shownDoc, changeRow, changes}
 use Rattle.rules.specs.Words.{put, tableOf, rowsOf, wordsOf, written}
 use Rattle.rules.specs.Sound.{soundTable?, sound?, Sound}
 use Rattle.rules.specs.Saved.{parentOf}
 use Rattle.rules.specs.Calls.{outside, refusals, accepted, ladder, outcome}
 use Rattle.rules.specs.Runs.{Move, run}
-use Rattle.laws.proofs.Tests.{clash, or-right, by-lt, all-out}
+use Rattle.laws.proofs.Tests.{clash, or-left, or-right, by-lt, all-out}
 use Rattle.laws.proofs.Reflect.{sound-is, sound-table-is}
 use Rattle.laws.proofs.Central.{position-steps}
 use Rattle.laws.proofs.Tree.{tree-of}
@@ -26,8 +26,8 @@ use Rattle.laws.proofs.Removal.{sound-rows}
 use Rattle.demands.specs.Record.{Words32}
 use Rattle.demands.specs.Model.{Future, Backward}
 use Rattle.demands.specs.Follows.{ofRows}
-use Rattle.demands.specs.Note.{NoneBelow}
-use Rattle.demands.specs.Readings.{BackRestoresShown, OwnFutureEnough, VisibleFuturesEnough, BackIs, ToLatestPast, FromLatestOfAll, ToFirst, AnyDrop, GoneAsNoted}
+use Rattle.demands.specs.Note.{NoneBelow, TakenStay, NoneReplaced}
+use Rattle.demands.specs.Readings.{BackRestoresShown, OwnFutureEnough, VisibleFuturesEnough, BackIs, ToLatestPast, FromLatestOfAll, ToFirst, AnyDrop, AnyReplacement, GoneAsNoted}
 use Rattle.demands.proofs.Histories.{same-refl}
 use Rattle.demands.proofs.Traverses.{walk-model}
 use Rattle.demands.proofs.Active.{visible-active}
@@ -81,19 +81,47 @@ isNavigation (Move.opens p) = false
 isNavigation (Move.navigates d) = true
 isNavigation (Move.goes δ room) = false
 isNavigation (Move.drops f) = false
+isNavigation (Move.replaces d) = false
 
-someNavigation : List Move → Bool
-someNavigation [] = false
-someNavigation (m ∷ moves) = isNavigation m || someNavigation moves
+isDrop : Move → Bool
+isDrop (Move.opens p) = false
+isDrop (Move.navigates d) = false
+isDrop (Move.goes δ room) = false
+isDrop (Move.drops f) = true
+isDrop (Move.replaces d) = false
 
--- Moves without a navigation have none from a lower position.
-none-below : (words : List ℕ) (moves : List Move) → someNavigation moves ≡ false → NoneBelow words moves
-unfolding isNavigation someNavigation
-none-below words moves none before rest d e a = absurd (clash (found before) (ap someNavigation (sym e) ∙ none))
+isReplacement : Move → Bool
+isReplacement (Move.opens p) = false
+isReplacement (Move.navigates d) = false
+isReplacement (Move.goes δ room) = false
+isReplacement (Move.drops f) = false
+isReplacement (Move.replaces d) = true
+
+someMove : (Move → Bool) → List Move → Bool
+someMove p [] = false
+someMove p (m ∷ moves) = p m || someMove p moves
+
+-- A move that passes is not among moves of which none does.
+not-among : (p : Move → Bool) (moves : List Move) → someMove p moves ≡ false → (before rest : List Move) (m : Move) → So (p m) → moves ≡ before ++ m ∷ rest → ⊥
+unfolding someMove
+not-among p moves none before rest m t e = clash (found before) (ap (someMove p) (sym e) ∙ none)
   where
-    found : (before : List Move) → So (someNavigation (before ++ Move.navigates d ∷ rest))
-    found [] = refl
-    found (m ∷ before) = or-right (isNavigation m) (found before)
+    found : (before : List Move) → So (someMove p (before ++ m ∷ rest))
+    found [] = or-left (someMove p rest) t
+    found (k ∷ before) = or-right (p k) (found before)
+
+-- Moves without a navigation have none from a lower position; without a drop none removes a taken step; without a replacement none is of a noted document.
+none-below : (words : List ℕ) (moves : List Move) → someMove isNavigation moves ≡ false → NoneBelow words moves
+unfolding isNavigation
+none-below words moves none before rest d e a = absurd (not-among isNavigation moves none before rest (Move.navigates d) refl e)
+
+taken-stay : (words : List ℕ) (moves : List Move) → someMove isDrop moves ≡ false → TakenStay words moves
+unfolding isDrop
+taken-stay words moves none before rest f d e h t = not-among isDrop moves none before rest (Move.drops f) refl e
+
+none-replaced : (words : List ℕ) (moves : List Move) → someMove isReplacement moves ≡ false → NoneReplaced words moves
+unfolding isReplacement
+none-replaced words moves none before rest d e a there = not-among isReplacement moves none before rest (Move.replaces d) refl e
 
 -- Of steps 3 and 4, in frames 1 and 2, the first is taken. Frame 1 goes, step 4 is taken: the position is 1 again, and document 2 of frame 2 has given way to 4.
 abbrev two : List ℕ
@@ -103,11 +131,25 @@ two =
 
 pub taken-may-not-go : AnyDrop → ⊥
 unfolding someBelow allBelow count earliest latest tab gather inRecord place isFrame withFlags climb step reach position steps climbOf hiderOf visible
-    gone without show forward walked shownDoc changeRow changes parentOf isNavigation someNavigation
+    gone without show forward walked shownDoc changeRow changes parentOf isNavigation isReplacement someMove
     put tableOf wordsOf written soundTable? sound? refusals accepted ladder outcome run flatMap
 taken-may-not-go claim =
     let moves = Move.drops 1 ∷ Move.goes (pos 1) (replicate 4 0) ∷ [] in
-    false≢true (claim two moves (wide-by two refl) (sound-is two .0 refl) (none-below two moves refl) moves [] refl refl 2 refl refl)
+    false≢true (claim two moves (wide-by two refl) (sound-is two .0 refl) (none-below two moves refl) (none-replaced two moves refl) moves [] refl refl 2 refl refl)
+
+-- Step 3 lies in document 1 and is taken, step 4 is upcoming in the frame of 1. With 1 replaced 3 goes, and step 4 is taken: the position is 1 again, and 4 is visible.
+abbrev nested : List ℕ
+nested =
+    written (replicate 23 0)
+    (record { rows = row 0 0 none 1 ∷ row 1 1 0 1 ∷ row 2 2 1 0 ∷ row 3 2 1 1 ∷ row 4 1 0 0 ∷ []; nextDoc = 5; nextFrame = 3 })
+
+pub noted-may-not-be-replaced : AnyReplacement → ⊥
+unfolding someBelow allBelow count earliest latest tab gather inRecord place isFrame withFlags climb step reach position steps climbOf hiderOf visible
+    gone without renamed replaced show forward walked shownDoc changeRow changes isNavigation isDrop someMove
+    put tableOf wordsOf written soundTable? sound? refusals accepted ladder outcome run flatMap
+noted-may-not-be-replaced claim =
+    let moves = Move.replaces 1 ∷ Move.goes (pos 1) (replicate 4 0) ∷ [] in
+    false≢true (sym (claim nested moves (wide-by nested refl) (sound-is nested .0 refl) (none-below nested moves refl) (taken-stay nested moves refl) moves [] refl refl 4 refl refl))
 
 -- Frame 1 has no step. It goes, and document 1 with it, which was visible.
 abbrev one : List ℕ
@@ -115,12 +157,13 @@ one = written (replicate 11 0) (record { rows = row 0 0 none 1 ∷ row 1 1 0 1 �
 
 pub gone-not-as-noted : GoneAsNoted → ⊥
 unfolding someBelow allBelow count earliest latest tab gather inRecord place isFrame withFlags climb step reach position steps climbOf hiderOf visible
-    gone without parentOf isNavigation someNavigation put tableOf wordsOf written soundTable? sound? refusals accepted ladder outcome run flatMap
+    gone without parentOf isNavigation isReplacement someMove put tableOf wordsOf written soundTable? sound? refusals accepted ladder outcome run flatMap
 gone-not-as-noted claim =
     let moves = Move.drops 1 ∷ [] in
     false≢true (claim one moves (wide-by one refl) (sound-is one .0 refl) (record {
       none-below = none-below one moves refl;
       taken-stay = λ before rest f d e h t. clash (t .3) (not-true _ (all-out (λ i. not (taken (rowsOf one) i)) 2 refl (t .0) (t .1)));
+      none-replaced = none-replaced one moves refl;
     }) moves [] refl refl 1 refl)
 
 -- 001'S MODEL

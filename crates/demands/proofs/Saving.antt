@@ -2,7 +2,7 @@
 use Prim.Native.Nat.{ℕ, _+_, _≤_}
 use mathlib.Core.Bool.{not, So}
 use mathlib.Core.List.{List, [], _∷_}
-use mathlib.Core.Logic.{inl, inr, ⊎-elim}
+use mathlib.Core.Logic.{_↔_, inl, inr, ⊎-elim}
 use mathlib.Core.Path.{_≡_, refl, sym, ap, ap₂, subst, _∙_}
 use native.Mathlib.Omega.{arith}
 use lib.ListN.{length, getD, take, drop}
@@ -12,21 +12,24 @@ use Rattle.rules.specs.Rows.{Table}
 use Rattle.rules.specs.Words.{put, capacity, tableOf, rowsOf, written}
 use Rattle.rules.specs.Sound.{Sound}
 use Rattle.rules.specs.Saved.{saved, loaded, fromSave?}
+use Rattle.rules.specs.OldSaved.{oldSaved, oldLoaded, S2rising}
 use Rattle.rules.specs.Calls.{Call, Answer, _leaving_, refusals, accepted, outcome, NoneGiven}
 use Rattle.rules.specs.Runs.{Move, after, run}
 use Rattle.laws.proofs.Reflect.{sound-is}
-use Rattle.laws.proofs.Words.{table-written, written-sound, length-written, written-written, written-table}
-use Rattle.laws.proofs.Calls.{outcome-accepted}
-use Rattle.laws.proofs.Trips.{loaded-saved}
-use Rattle.laws.proofs.Loads.{in-room, from-save-is, from-save-in}
+use Rattle.laws.proofs.Words.{table-written, length-written, written-written, written-table}
+use Rattle.laws.specs.Loading.{fills}
+use Rattle.laws.proofs.Calls.{outcome-accepted, load-is, load-old-is}
+use Rattle.laws.proofs.Loads.{loaded-saved, from-save-is, from-save-in}
+use Rattle.laws.proofs.OldLoads.{old-loaded-saved, from-old-save-is, from-old-save-in}
 use Rattle.demands.specs.Record.{Words32, Accepted}
 use Rattle.demands.specs.Standing.{left}
-use Rattle.demands.specs.Refuses.{lines, First, HoldsIn}
-use Rattle.demands.specs.Saving.{Writes, UndoEachOther}
+use Rattle.demands.specs.Refuses.{Short, NotSaved, NotSavedThen, _if_, lines, First, HoldsIn}
+use Rattle.demands.specs.Saving.{Writes, UndoEachOther, TakesOld}
 use Rattle.demands.proofs.Accepted.{accepted-none, made, by-move}
 use Rattle.demands.proofs.Lasting.{long, made-lasting}
 use Rattle.demands.proofs.Standing.{sound-kept, words-kept, standing}
-use Rattle.demands.proofs.Demand1.{first-holds, demand1}
+use Rattle.demands.proofs.Loading.{load-out, load-in, load-leaves}
+use Rattle.demands.proofs.Demand1.{table-of, first-holds, demand1}
 
 -- ACCEPTED
 
@@ -48,23 +51,6 @@ module _ (words room : List ℕ) where
       outcome-accepted (Call.Save words room)
       (le-ltb _ _ (long words (s .sound)), (ap not (sound-is words .1 (s .sound)), (le-ltb _ _ (s .fits), tt)))
 
--- Load is accepted exactly for a run of 7 words, bytes of Save and room for the rows.
-record Loads (words bytes : List ℕ) : Type 0 where
-  seven : 7 ≤ length words
-  from : So (fromSave? bytes)
-  fits : length (loaded bytes .rows) ≤ capacity words
-
-module _ (words bytes : List ℕ) where
-  load-out : Accepted (Call.Load words bytes) → Loads words bytes
-  unfolding refusals NoneGiven
-  load-out a =
-      let h = accepted-none (Call.Load words bytes) a in
-      record { seven = ltb-false _ _ (h .0); from = not-false _ (h .1 .0); fits = ltb-false _ _ (h .1 .1 .0) }
-
-  load-in : Loads words bytes → outcome (Call.Load words bytes) ≡ (length (loaded bytes .rows) ∷ [] leaving written words (loaded bytes) ∷ [])
-  unfolding refusals NoneGiven accepted
-  load-in s = outcome-accepted (Call.Load words bytes) (le-ltb _ _ (s .seven), (ap not (s .from), (le-ltb _ _ (s .fits), tt)))
-
 -- THERE AND BACK
 
 -- Bytes written into a run are its first.
@@ -84,29 +70,22 @@ written-bytes words room bytes e =
 
 -- Load of what Save wrote, into any record with room for the rows, writes the same table.
 load-writes : (words room bytes other : List ℕ) → Writes words room bytes → length (rowsOf words) ≤ capacity other →
-    outcome (Call.Load other bytes) ≡ (length (rowsOf words) ∷ [] leaving written other (tableOf words) ∷ [])
+    outcome (Call.Load other bytes) ≡ fills other (tableOf words)
 load-writes words room bytes other e fits =
     let s = written-bytes words room bytes e in
-    let t = s .0 .table in
+    let t = table-of words (s .0) in
     let back : loaded bytes ≡ tableOf words = ap loaded (s .1) ∙ loaded-saved (tableOf words) t in
-    let from : So (fromSave? bytes) = rw (s .1) (from-save-in (tableOf words) (in-room 512 t (omega (arith, t .s1 .fits)))) in
-    subst (λ u. outcome (Call.Load other bytes) ≡ (length (u .rows) ∷ [] leaving written other u ∷ [])) back
-    (load-in other bytes (record { seven = omega (arith, t .s1 .some); from = from; fits = rw back fits }))
+    let from : So (fromSave? bytes) = rw (s .1) (from-save-in (tableOf words) t) in
+    subst (λ u. outcome (Call.Load other bytes) ≡ fills other u) back
+    (load-in (load-is other bytes) (record { seven = omega (arith, t .s1 .some); from = from; fits = rw back fits }))
 
--- What Load leaves is a sound record, and the bytes are its own.
-load-leaves : (words bytes : List ℕ) → Accepted (Call.Load words bytes) → Sound (left (Call.Load words bytes)) × (saved (tableOf (left (Call.Load words bytes))) ≡ bytes)
-load-leaves words bytes a =
-    let l = load-out words bytes a in
-    let s = from-save-is bytes .0 (l .from) in
-    let three : 3 ≤ length words = omega (arith, l .seven) in
-    subst (λ w. Sound w × (saved (tableOf w) ≡ bytes)) (sym (ap (λ o. getD (o .lent) 0 []) (load-in words bytes l)))
-    (written-sound words (loaded bytes) three (in-room _ (s .0) (l .fits)), ap saved (table-written words (loaded bytes) three (l .fits)) ∙ s .1)
-
--- Save writes them again into a run with room.
+-- Save writes what Load took again into a run with room.
 save-left : (words bytes : List ℕ) → Accepted (Call.Load words bytes) → (room : List ℕ) → length bytes ≤ length room → Writes (left (Call.Load words bytes)) room bytes
 save-left words bytes a room fits =
-    let r = load-leaves words bytes a in
-    subst (Writes _ room) (r .1) (save-in _ room (record { sound = r .0; fits = rw (r .1) fits }))
+    let s = from-save-is bytes .0 (load-out (load-is words bytes) a .from) in
+    let r = load-leaves (load-is words bytes) (λ h. s .0) a in
+    let same = ap saved (r .1) ∙ s .1 in
+    subst (Writes _ room) same (save-in _ room (record { sound = r .0; fits = rw same fits }))
 
 -- A table written after moves is the table written before: moves keep the length and what stands past the rows.
 module _ (t : Table) where
@@ -129,9 +108,18 @@ module _ (t : Table) where
       let b = after-moves moves (after words m) (words-kept words wide s m) (sound-kept words wide s m) (rw (a .0) fits) in
       (b .0 ∙ a .0, b .1 ∙ a .1)
 
+-- A loading call is refused by 3 exactly when its second line holds, if the record is not under 7 words.
+refused-three : (c : Call) (words : List ℕ) (full P : Type 0) → lines c ≡ 1 if Short words ∷ 3 if P ∷ 7 if full ∷ [] → 7 ≤ length words → (outcome c .answer ≡ Answer.refuses 3 []) ↔ P
+unfolding First HoldsIn
+refused-three c words full P is seven =
+    let exact = demand1 c .exactly 3 [] in (
+      λ e. ⊎-elim (λ x. absurd (omega (arith, x .1))) (⊎-elim (λ x. x .1) (⊎-elim (λ x. absurd (omega (arith, x .0))) (λ x. absurd x))) (first-holds 3 [] (1 if Short words ∷ 3 if P ∷ 7 if full ∷ []) (subst (First 3 []) is (exact .0 e))),
+      λ p. exact .1 (subst (First 3 []) (sym is) (inr (λ short. omega arith, inl (refl, p, refl)))),
+    )
+
 -- "Saving and loading undo each other, and loading accepts only bytes that saving writes."
 pub undo-each-other : UndoEachOther
-unfolding lines First HoldsIn
+unfolding lines
 undo-each-other =
     record {
       load-save = λ words room bytes other e fits.
@@ -145,9 +133,28 @@ undo-each-other =
           ap (λ o. getD (o .lent) 0 []) (load-writes words room bytes (run words moves) e (rw (a .0) fits)) ∙ a .1 ∙ written-table words s;
       save-load = λ words bytes room a fits. save-left words bytes a room fits;
       accepts-only = λ words bytes wide b a. (left (Call.Load words bytes), bytes, standing .load words bytes wide b a, save-left words bytes a bytes (omega arith));
-      refuses-others = λ words bytes seven.
-          let exact = demand1 (Call.Load words bytes) .exactly 3 [] in (
-            λ e. ⊎-elim (λ x. omega (arith, x .1)) (⊎-elim (λ x. x .1) (⊎-elim (λ x. omega (arith, x .0)) (λ x. absurd x))) (first-holds 3 [] (lines (Call.Load words bytes)) (exact .0 e)),
-            λ n. exact .1 (inr (λ short. omega arith, inl (refl, n, refl))),
-          );
+      refuses-others = λ words bytes. refused-three (Call.Load words bytes) words _ (NotSaved bytes) refl;
+    }
+
+-- "The old form has its own loading call, which accepts exactly what it accepted."
+pub takes-old : TakesOld
+unfolding lines
+takes-old =
+    record {
+      takes = λ words other s order fits.
+          let t = table-of words s in
+          let bytes = oldSaved (tableOf words) in
+          let back : oldLoaded bytes ≡ tableOf words = old-loaded-saved (tableOf words) t order in
+          let o = subst (λ u. outcome (Call.LoadOld other bytes) ≡ fills other u) back (load-in (load-old-is other bytes) (record {
+            seven = omega (arith, t .s1 .some);
+            from = from-old-save-in (tableOf words) (record { sound = t; order = order });
+            fits = rw back fits;
+          })) in
+          let some = t .s1 .some in
+          ((_, ap (λ o. o .answer) o), ap (λ o. tableOf (getD (o .lent) 0 [])) o ∙ table-written other (tableOf words) (omega arith) fits);
+      only = λ words bytes a.
+          let s = from-old-save-is bytes .0 (load-out (load-old-is words bytes) a .from) in
+          let r = load-leaves (load-old-is words bytes) (λ h. s .0 .sound) a in
+          (r .0, subst (λ (t : Table). S2rising (t .rows) (t .nextDoc)) (sym (r .1)) (s .0 .order), ap oldSaved (r .1) ∙ s .1);
+      refuses = λ words bytes. refused-three (Call.LoadOld words bytes) words _ (NotSavedThen bytes) refl;
     }

@@ -1,5 +1,5 @@
--- Who is visible at position p, of the documents below n that are in the record still: no move changes that but a navigation from before p and a drop
--- with which one of the first p steps goes. Assumes nothing.
+-- Who is visible at position p, of the documents below n that are in the record still, does not change with flags, with a row more or with rows removed that
+-- are not of the first p steps. Assumes nothing.
 use Prim.Native.Nat.{ℕ, _≤_, _<_}
 use mathlib.Core.Path.{_≡_, refl, sym, ap, _∙_, subst, subst₃}
 use mathlib.Core.List.{List, [], _∷_, _++_}
@@ -7,34 +7,20 @@ use mathlib.Core.Logic.{_≢_, _⊎_, inl, inr, ⊎-elim}
 use mathlib.Core.Bool.{Bool, So, false, not, _&&_, and-eq-true-iff}
 use native.Mathlib.Omega.{arith}
 use lib.Dec.{ltb}
-use lib.IntN.{ℤ, pos, _+ℤ_}
 use lib.ListN.{length}
 use borrow.Author.Tests.{ltb-true}
 use Rattle.rules.specs.Below.{count}
-use Rattle.rules.specs.Rows.{Row, Table, none, rowAt, docAt, frameAt, parentAt, inRecord, inFrame, marked}
-use Rattle.rules.specs.Steps.{step, isStep, upcoming, position, steps, visible}
-use Rattle.rules.specs.Moves.{opened, without, cleared, navigated, traversed, dropped}
-use Rattle.rules.specs.Words.{tableOf, rowsOf}
-use Rattle.rules.specs.Sound.{Sound}
-use Rattle.rules.specs.Calls.{outside, refusals, NoneGiven}
-use Rattle.rules.specs.Runs.{Move, on, after}
-use Rattle.laws.proofs.Tests.{test, by-lt, below-cases, count-le, count-mono, count-same, count-first}
+use Rattle.rules.specs.Rows.{Row, none, rowAt, docAt, frameAt, parentAt, inRecord, marked}
+use Rattle.rules.specs.Steps.{step, isStep, steps, visible}
+use Rattle.laws.proofs.Tests.{by-lt, below-cases, count-le, count-mono, count-same, count-first}
 use Rattle.laws.proofs.Frames.{due-first}
 use Rattle.laws.proofs.Central.{flagsAt, at-length, at-doc, at-frame, at-parent, at-at, at-steps}
 use Rattle.laws.proofs.Append.{step-agree, length-snoc, snoc-old, snoc-new, append-at}
 use Rattle.laws.proofs.Kept.{kept, kept-frames, Whole, step-kept, steps-kept, removed-steps}
 use Rattle.laws.proofs.Tree.{TreeOf, came}
 use Rattle.laws.proofs.Reflect.{record-is}
-use Rattle.laws.proofs.Removal.{SoundRows, stays, stays-up, stays-whole}
-use Rattle.laws.proofs.Travel.{walked-at}
-use Rattle.laws.proofs.Navigate.{tree-at, arrival, navigated-at}
-use Rattle.laws.proofs.Drop.{staysBut, frame-together, dropped-out}
-use Rattle.laws.proofs.Accepted.{navigate-relies}
-use Rattle.demands.specs.Record.{Words32}
-use Rattle.demands.specs.Note.{Removes}
-use Rattle.demands.proofs.Accepted.{go-relies, made, by-move}
-use Rattle.demands.proofs.Lasting.{lasting, lasting-rows, table-after}
-use Rattle.demands.proofs.Seen.{seen-append, seen-there, at-record, seen-still, kept-at, steps-stay, cleared-whole, cleared-there}
+use Rattle.laws.proofs.Navigate.{tree-at}
+use Rattle.demands.proofs.Seen.{seen-append, seen-there, at-record, seen-still, kept-at}
 
 -- Of so many places, document d stands at one of the first p steps.
 abbrev EarlyIn : ℕ → ℕ → ℕ → (ℕ → ℕ) → (ℕ → ℕ) → Type 0
@@ -43,9 +29,21 @@ EarlyIn p d len doc frame = (k : ℕ) × (k < len) × (doc k ≡ d) × So (step 
 abbrev pub Early : ℕ → List Row → ℕ → Type 0
 Early p rows d = EarlyIn p d (length rows) (docAt rows) (frameAt rows)
 
+-- What lies in a document from n on is itself one: those below n lie in each other, or in none.
+abbrev ClosedIn : ℕ → ℕ → (ℕ → ℕ) → (ℕ → ℕ) → Type 0
+ClosedIn n len doc parent = (i : ℕ) → i < len → n ≤ parent i → parent i ≢ none → n ≤ doc i
+
+abbrev pub Closed : ℕ → List Row → Type 0
+Closed n rows = ClosedIn n (length rows) (docAt rows) (parentAt rows)
+
+-- At the note every document is below n.
+pub closed-note : (rows : List Row) {n b : ℕ} → TreeOf rows n b → Closed n rows
+closed-note rows t i l a ne = ⊎-elim (λ e. absurd (ne e)) (λ r. absurd (omega (arith, t .below (r .0) (omega (arith, r .1)), r .2))) (t .placed i l)
+
 -- From these rows to those. A frame may have gone only where `Out` holds.
 pub record Steady (Out : Type 0) (p n : ℕ) (rows to : List Row) : Type 0 where
   pub enough : p ≤ steps to
+  pub closed : Closed n to
   -- The first p steps are the same.
   pub noted : (d : ℕ) → Early p to d → Early p rows d
   -- None of the documents below n is new, and those in the record are seen as before at position p.
@@ -58,24 +56,26 @@ pub steady-then : {Out : Type 0} {p n : ℕ} {a b c : List Row} → Steady Out p
 steady-then x y =
     record {
       enough = y .enough;
+      closed = y .closed;
       noted = λ d h. x .noted d (y .noted d h);
       was = λ d l h. x .was d l (y .was d l h);
       seen = λ d l h. y .seen d l h ∙ x .seen d l (y .was d l h);
       lost = λ d l v. ⊎-elim (λ h. y .lost d l (x .seen d l h ∙ v)) inr (x .lost d l v);
     }
 
-module _ (Out : Type 0) (p n : ℕ) (rows : List Row) (few : p ≤ steps rows) where
-  seen-in : (d : ℕ) → So (visible (flagsAt p rows) d) → So (inRecord rows d)
+module _ (Out : Type 0) (p n : ℕ) (rows : List Row) (few : p ≤ steps rows) (closed : Closed n rows) where
+  pub seen-in : (d : ℕ) → So (visible (flagsAt p rows) d) → So (inRecord rows d)
   seen-in d v = sym (at-record p rows d) ∙ seen-there (flagsAt p rows) d v
 
   pub steady-stay : Steady Out p n rows rows
-  steady-stay = record { enough = few; noted = λ d h. h; was = λ d l h. h; seen = λ d l h. refl; lost = λ d l v. inl (seen-in d v) }
+  steady-stay = record { enough = few; closed = closed; noted = λ d h. h; was = λ d l h. h; seen = λ d l h. refl; lost = λ d l v. inl (seen-in d v) }
 
   -- Other flags.
-  steady-at : (q : ℕ) → Steady Out p n rows (flagsAt q rows)
+  pub steady-at : (q : ℕ) → Steady Out p n rows (flagsAt q rows)
   steady-at q =
       record {
         enough = let e = at-steps q rows in omega arith;
+        closed = subst₃ (ClosedIn n) (sym (at-length q rows)) (sym (at-doc q rows)) (sym (at-parent q rows)) closed;
         noted = λ d h. subst₃ (EarlyIn p d) (at-length q rows) (at-doc q rows) (at-frame q rows) h;
         was = λ d l h. sym (at-record q rows d) ∙ h;
         seen = λ d l h. ap (λ r. visible r d) (at-at q p rows);
@@ -102,11 +102,18 @@ module _ (Out : Type 0) (p n : ℕ) (rows : List Row) (few : p ≤ steps rows) w
         (λ m. (h .0, m, ap (λ x. x .doc) (sym (snoc-old rows r (h .0) m)) ∙ h .2, sym (same-steps (h .0) m) ∙ h .3, let c = same-count (h .0) (omega arith) in omega (arith, h .4)))
         (below-cases (subst (λ k. h .0 < k) (length-snoc rows r) (h .1)))
 
-    steady-append : Steady Out p n rows all
+    pub steady-append : Steady Out p n rows all
     unfolding steps
     steady-append =
         record {
           enough = omega (arith, same-count (length rows) (omega arith), length-snoc rows r, count-mono (isStep all) (length all) {i = length rows} (omega (arith, length-snoc rows r)));
+          closed = λ i l a ne.
+              ⊎-elim
+              (λ e. subst (λ (x : Row). n ≤ x .doc) (sym (ap (rowAt all) e ∙ snoc-new rows r)) new)
+              (λ m.
+              let o = snoc-old rows r i m in
+              subst (λ (x : Row). n ≤ x .doc) (sym o) (closed i m (subst (λ (x : Row). n ≤ x .parent) o a) (λ z. ne (ap (λ x. x .parent) o ∙ z))))
+              (below-cases (subst (λ k. i < k) (length-snoc rows r) l));
           noted = appended-noted;
           was = λ d l h.
               let o = record-is all d .0 h in
@@ -154,78 +161,19 @@ module _ (Out : Type 0) (p n : ℕ) (rows : List Row) (few : p ≤ steps rows) w
         (λ j k l m q g. up j k l (subst (λ i. k < i) (at-length p rows) m) (ap (λ f. f j) (sym (at-doc p rows)) ∙ q ∙ ap (λ f. f k) (at-parent p rows)) g) d
         (ap (λ l. inRecord l d) (sym e) ∙ at-record p (kept keep rows) d ∙ h)
 
-    steady-kept : ((d : ℕ) → So (visible (flagsAt p rows) d) → So (inRecord (kept keep rows) d) ⊎ Out) → Steady Out p n rows (kept keep rows)
+    pub steady-kept : ((d : ℕ) → d < n → So (visible (flagsAt p rows) d) → So (inRecord (kept keep rows) d) ⊎ Out) → Steady Out p n rows (kept keep rows)
     unfolding steps
     steady-kept lost =
         record {
           enough = let m = early-kept (length rows) (omega arith) few in omega (arith, removed-steps keep rows p whole);
+          closed = λ i l x ne.
+              let c = came keep rows t up i l in
+              subst (λ v. n ≤ v) (sym (c .4 .d)) (closed (c .0) (c .1) (subst (λ v. n ≤ v) (c .4 .p) x) (λ z. ne (c .4 .p ∙ z)));
           noted = kept-noted;
           was = λ d l h.
               let o = record-is (kept keep rows) d .0 h in
               let c = came keep rows t up (o .0) (o .1) in
               record-is rows d .1 (c .0, c .1, sym (c .4 .d) ∙ o .2);
           seen = λ d l h. seen-by-kept d h;
-          lost = λ d l v. lost d v;
+          lost = lost;
         }
-
-module _ (Out : Type 0) (p n : ℕ) (t : Table) (s : SoundRows (t .rows) (t .nextDoc) (t .nextFrame)) (few : p ≤ steps (t .rows)) where
-  steady-open : n ≤ t .nextDoc → (d : ℕ) → Steady Out p n (t .rows) (opened t d .rows)
-  unfolding opened
-  steady-open next d = steady-append Out p n (t .rows) few _ next
-
-  steady-navigate : n ≤ t .nextDoc → t .nextDoc ≢ none → (d : ℕ) → So (visible (t .rows) d) → p ≤ position (t .rows) → Steady Out p n (t .rows) (navigated t d .rows)
-  unfolding without
-  steady-navigate next unused d sees fair =
-      let x = arrival t s unused d sees in
-      let c = cleared (t .rows) in
-      let a : Steady Out p n (t .rows) c =
-      steady-kept Out p n (t .rows) few (stays (upcoming (t .rows)) (t .rows)) (s .tree) (stays-up (upcoming (t .rows)) (t .rows) (s .tree))
-      (cleared-whole (t .rows) s p fair) (steps-stay (t .rows) s p fair) (λ e v. inl (cleared-there (t .rows) s p fair e v)) in
-      let b = steady-append Out p n c (a .enough) x next in
-      subst (Steady Out p n (t .rows)) (sym (navigated-at t s unused d sees)) (steady-then a (steady-then b (steady-at Out p n (c ++ x ∷ []) (b .enough) _)))
-
-  steady-go : (δ : ℤ) → outside (steps (t .rows)) (pos (position (t .rows)) +ℤ δ) ≡ false → Steady Out p n (t .rows) (traversed t δ .rows)
-  steady-go δ inside =
-      let r = walked-at (t .rows) (s .s6) (s .s7) δ inside in
-      subst (Steady Out p n (t .rows)) (sym (r .rows-are)) (steady-at Out p n (t .rows) few (r .to))
-
-  -- No early step goes.
-  steady-drop : Out → (f : ℕ) → ((k : ℕ) → k < length (t .rows) → So (isStep (t .rows) k) → count (isStep (t .rows)) k < p → So (staysBut f (t .rows) k)) →
-      Steady Out p n (t .rows) (dropped t f .rows)
-  unfolding without
-  steady-drop out f early =
-      steady-kept Out p n (t .rows) few (staysBut f (t .rows)) (s .tree) (stays-up (inFrame (t .rows) f) (t .rows) (s .tree))
-      (stays-whole (inFrame (t .rows) f) (t .rows) (s .tree) p (frame-together (t .rows) f p)) early (λ d v. inr out)
-
--- What is asked of a move, for it to be steady.
-pub record Fair (Out : Type 0) (p : ℕ) (words : List ℕ) (m : Move) : Type 0 where
-  pub above : (d : ℕ) → m ≡ Move.navigates d → NoneGiven (refusals (on words m)) → p ≤ position (rowsOf words)
-  pub spared : (f d : ℕ) → m ≡ Move.drops f → Removes words m d → Early p (rowsOf words) d → ⊥
-  pub out : (f : ℕ) → m ≡ Move.drops f → NoneGiven (refusals (on words m)) → Out
-
-module _ (Out : Type 0) (p n : ℕ) (words : List ℕ) (wide : Words32 words) (s : Sound words) (few : p ≤ steps (rowsOf words)) (next : n ≤ tableOf words .nextDoc) where
-  abbrev t : Table
-  t = tableOf words
-
-  rows : SoundRows (t .rows) (t .nextDoc) (t .nextFrame)
-  rows = lasting-rows (lasting words wide s)
-
-  steady-made : (m : Move) → Fair Out p words m → NoneGiven (refusals (on words m)) → tableOf (after words m) ≡ made t m → Steady Out p n (t .rows) (made t m .rows)
-  steady-made (Move.opens d) fair h e = steady-open Out p n t rows few next d
-  steady-made (Move.navigates d) fair h e =
-      let o = navigate-relies words d h in
-      steady-navigate Out p n t rows few next (o .doc) d (o .seen) (fair .above d refl h)
-  steady-made (Move.goes δ room) fair h e = steady-go Out p n t rows few δ (go-relies words δ room h .inside)
-  steady-made (Move.drops f) fair h e =
-      steady-drop Out p n t rows few (fair .out f refl h) f (λ k l m c.
-      test (staysBut f (t .rows) k) (λ y. y) (λ g.
-      absurd (fair .spared f (docAt (t .rows) k) refl (
-        record-is (t .rows) (docAt (t .rows) k) .1 (k, l, refl),
-        ap (λ (u : Table). inRecord (u .rows) (docAt (t .rows) k)) e ∙ dropped-out t f rows k l g,
-      ) (k, l, refl, m, c))))
-
-  pub steady-after : (m : Move) → Fair Out p words m → Steady Out p n (rowsOf words) (rowsOf (after words m))
-  steady-after m fair =
-      by-move words m
-      (λ h e. let a = table-after words wide s m h e in subst (λ (u : Table). Steady Out p n (rowsOf words) (u .rows)) (sym a) (steady-made m fair h a))
-      (λ e. subst (λ w. Steady Out p n (rowsOf words) (rowsOf w)) (sym e) (steady-stay Out p n (rowsOf words) few))

@@ -14,7 +14,7 @@ use Rattle.rules.specs.Sound.{Sound}
 use Rattle.rules.specs.Calls.{Answer, outcome}
 use Rattle.rules.specs.Runs.{Move, on, after}
 use Rattle.demands.specs.Record.{Words32, Accepted}
-use Rattle.demands.specs.Saving.{UndoEachOther}
+use Rattle.demands.specs.Saving.{UndoEachOther, TakesOld}
 use Rattle.demands.specs.Model.{History, IsHistory, Root, FA, JointFuture, deleting, navigating, Same, Traverses, WellFormed}
 
 -- n places with their documents, frames, parents and marks, as a history: "Row order is chronological order." "A frame is the source's session,
@@ -77,3 +77,5 @@ pub record Demand2 : Type 1 where
   pub model : (words : List ℕ) → Words32 words → Sound words → FollowsModel words
   -- "Saving and loading undo each other, and loading accepts only bytes that saving writes."
   pub saving : UndoEachOther
+  -- "The old form has its own loading call, which accepts exactly what it accepted."
+  pub old : TakesOld

@@ -92,7 +92,7 @@ module _ (H : History) where
         sim = λ d e. H .sim d e × Remains gone d × Remains gone e;
       }
 
-  -- "Definition 2: replacing d by d' in H, where d ∈ FA and d' ∉ D"
+  -- "Definition 2: replacing d by d' in H, where d ∈ FA and d' ∉ D". Document 02's Replace (L7) is another thing, which 001 lacks.
   abbrev pub replacing : ℕ → ℕ → History
   replacing d new =
       record {

@@ -38,11 +38,21 @@ NoneBelow words moves =
     (before rest : List Move) (d : ℕ) → moves ≡ before ++ Move.navigates d ∷ rest → Accepted (on (run words before) (Move.navigates d)) →
     positionIn words ≤ positionIn (run words before)
 
--- "any opens, navigations and traversals [..], refused ones among them", and drops (document 02, L1), with these premises.
+-- "sequences in which no removed row is one of the noted position's taken steps"
+abbrev pub TakenStay : List ℕ → List Move → Type 0
+TakenStay words moves =
+    (before rest : List Move) (f d : ℕ) → moves ≡ before ++ Move.drops f ∷ rest → Removes (run words before) (Move.drops f) d → TakenStep words d → ⊥
+
+-- "no document that existed at the note is replaced"
+abbrev pub NoneReplaced : List ℕ → List Move → Type 0
+NoneReplaced words moves =
+    (before rest : List Move) (d : ℕ) → moves ≡ before ++ Move.replaces d ∷ rest → Accepted (on (run words before) (Move.replaces d)) → So (inRecord (rowsOf words) d) → ⊥
+
+-- "any opens, navigations and traversals [..], refused ones among them", drops (document 02, L1) and replacements (L7), with these premises.
 pub record MayFollow (words : List ℕ) (moves : List Move) : Type 0 where
   pub none-below : NoneBelow words moves
-  -- "sequences in which no removed row is one of the noted position's taken steps"
-  pub taken-stay : (before rest : List Move) (f d : ℕ) → moves ≡ before ++ Move.drops f ∷ rest → Removes (run words before) (Move.drops f) d → TakenStep words d → ⊥
+  pub taken-stay : TakenStay words moves
+  pub none-replaced : NoneReplaced words moves
 
 -- "Each time the position is the noted one again, the visible documents that already existed at the note are exactly the noted ones": all of them, and as document
 -- 02 has it, the "noted documents still in the record".
@@ -56,12 +66,13 @@ VisibleAgain words moves =
     (before rest : List Move) → moves ≡ before ++ rest → positionIn (run words before) ≡ positionIn words →
     (d : ℕ) → So (inRecord (rowsOf words) d) → So (inRecord (rowsOf (run words before)) d) → visible (rowsOf (run words before)) d ≡ visible (rowsOf words) d
 
--- A move on these words hands out document number d: "Open [..] Answer: both numbers." "Navigate [..] Answer: the new number."
+-- A move on these words hands out document number d: "Open [..] Answer: both numbers." "Navigate [..] Answer: the new number." Replace: "its value the new number".
 abbrev pub HandsDocument : List ℕ → Move → ℕ → Type 0
 HandsDocument words (Move.opens p) d = (f : ℕ) × (outcome (on words (Move.opens p)) .answer ≡ Answer.gives (d ∷ f ∷ []))
 HandsDocument words (Move.navigates e) d = outcome (on words (Move.navigates e)) .answer ≡ Answer.gives (d ∷ [])
 HandsDocument words (Move.goes δ room) d = ⊥
 HandsDocument words (Move.drops f) d = ⊥
+HandsDocument words (Move.replaces e) d = outcome (on words (Move.replaces e)) .answer ≡ Answer.gives (d ∷ [])
 
 -- A move on these words hands out frame number f.
 abbrev pub HandsFrame : List ℕ → Move → ℕ → Type 0
@@ -69,6 +80,7 @@ HandsFrame words (Move.opens p) f = (d : ℕ) × (outcome (on words (Move.opens 
 HandsFrame words (Move.navigates e) f = ⊥
 HandsFrame words (Move.goes δ room) f = ⊥
 HandsFrame words (Move.drops g) f = ⊥
+HandsFrame words (Move.replaces e) f = ⊥
 
 -- "No [..] number handed out since was in the record at the note or was handed out earlier since"
 abbrev pub New : (List ℕ → Move → ℕ → Type 0) → (ℕ → Type 0) → List ℕ → List Move → Type 0
@@ -84,8 +96,19 @@ pub record Demand3 : Type 0 where
   -- "the same holds among frame numbers"
   pub new-frames : (words : List ℕ) (moves : List Move) → Words32 words → Sound words → New HandsFrame (λ f. So (isFrame (rowsOf words) f)) words moves
 
+-- No drop, and no replacement, is accepted.
+abbrev pub NoDrops : List ℕ → List Move → Type 0
+NoDrops words moves = (before rest : List Move) (f : ℕ) → moves ≡ before ++ Move.drops f ∷ rest → Accepted (on (run words before) (Move.drops f)) → ⊥
+
+abbrev pub NoReplacements : List ℕ → List Move → Type 0
+NoReplacements words moves = (before rest : List Move) (d : ℕ) → moves ≡ before ++ Move.replaces d ∷ rest → Accepted (on (run words before) (Move.replaces d)) → ⊥
+
 -- Where no drop is accepted, it is said of all documents that existed at the note, in the record still or not.
 abbrev pub WithoutDrops : Type 0
 WithoutDrops =
-    (words : List ℕ) (moves : List Move) → Words32 words → Sound words → NoneBelow words moves →
-    ((before rest : List Move) (f : ℕ) → moves ≡ before ++ Move.drops f ∷ rest → Accepted (on (run words before) (Move.drops f)) → ⊥) → AllVisibleAgain words moves
+    (words : List ℕ) (moves : List Move) → Words32 words → Sound words → NoneBelow words moves → NoDrops words moves → NoneReplaced words moves → AllVisibleAgain words moves
+
+-- Where no replacement is accepted, the premises are those that document 02's L1 left, and document 01's where no drop is accepted either.
+pub record WithoutReplacements : Type 0 where
+  pub with-drops : (words : List ℕ) (moves : List Move) → Words32 words → Sound words → NoReplacements words moves → NoneBelow words moves → TakenStay words moves → VisibleAgain words moves
+  pub without-drops : (words : List ℕ) (moves : List Move) → Words32 words → Sound words → NoReplacements words moves → NoneBelow words moves → NoDrops words moves → AllVisibleAgain words moves

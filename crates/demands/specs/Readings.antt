@@ -16,7 +16,7 @@ use Rattle.rules.specs.Runs.{Move, on, after}
 use Rattle.demands.specs.Record.{Words32, Accepted}
 use Rattle.demands.specs.Model.{History, Future, FA, JointPast, NextBefore, traversingTo, Same}
 use Rattle.demands.specs.Follows.{ofRows}
-use Rattle.demands.specs.Note.{NoneBelow, MayFollow, AllVisibleAgain, VisibleAgain}
+use Rattle.demands.specs.Note.{NoneBelow, TakenStay, NoneReplaced, MayFollow, AllVisibleAgain, VisibleAgain}
 
 -- The shown set.
 abbrev pub shownSet : List Row → List ℕ
@@ -78,7 +78,11 @@ ToFirst H K = (d' d : ℕ) × Future H d d' × ((e : ℕ) → Future H e d' → 
 
 -- Demand 3 after any drops: that the documents still in the record are visible as noted, though a step of the noted position is gone.
 abbrev pub AnyDrop : Type 0
-AnyDrop = (words : List ℕ) (moves : List Move) → Words32 words → Sound words → NoneBelow words moves → VisibleAgain words moves
+AnyDrop = (words : List ℕ) (moves : List Move) → Words32 words → Sound words → NoneBelow words moves → NoneReplaced words moves → VisibleAgain words moves
+
+-- Demand 3 after any replacements: that the documents still in the record are visible as noted, though one that existed at the note was replaced.
+abbrev pub AnyReplacement : Type 0
+AnyReplacement = (words : List ℕ) (moves : List Move) → Words32 words → Sound words → NoneBelow words moves → TakenStay words moves → VisibleAgain words moves
 
 -- Demand 3 of documents that went with a frame: that they are visible as noted.
 abbrev pub GoneAsNoted : Type 0

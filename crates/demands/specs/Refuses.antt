@@ -16,6 +16,7 @@ use Rattle.rules.specs.Words.{capacity, tableOf, rowsOf}
 use Rattle.rules.specs.Sound.{Sound}
 use Rattle.rules.specs.Asks.{takenList, upcomingList, ownList, outlineOf}
 use Rattle.rules.specs.Saved.{saved, loaded}
+use Rattle.rules.specs.OldSaved.{oldSaved, oldLoaded, S2rising}
 use Rattle.rules.specs.Places.{Place, scaled, entries, documentIn, kindIn, placeIn, placeOf}
 use Rattle.rules.specs.Calls.{Call, Answer, lentTo, outcome}
 
@@ -34,6 +35,17 @@ SavedBySome bytes = (words : List ℕ) × Sound words × (saved (tableOf words) 
 -- "3: saved bytes are not such bytes"
 abbrev pub NotSaved : List ℕ → Type 0
 NotSaved bytes = SavedBySome bytes → ⊥
+
+-- "The old form has its own loading call, which accepts exactly what it accepted": what Save wrote then, for some record that was sound then, with documents
+-- that rise by row.
+abbrev pub Rises : List ℕ → Type 0
+Rises words = S2rising (rowsOf words) (tableOf words .nextDoc)
+
+abbrev pub SavedThen : List ℕ → Type 0
+SavedThen bytes = (words : List ℕ) × Sound words × Rises words × (oldSaved (tableOf words) ≡ bytes)
+
+abbrev pub NotSavedThen : List ℕ → Type 0
+NotSavedThen bytes = SavedThen bytes → ⊥
 
 -- The document of row i is d.
 abbrev pub StandsAt : List ℕ → ℕ → ℕ → Type 0
@@ -158,6 +170,9 @@ lines (Call.Traverse words δ room) = 1 if Short words ∷ 2 if Unsound words �
 lines (Call.Drop words frame) =
     1 if Short words ∷ 2 if Unsound words ∷ 4 if NoFrame words frame
     ∷ 10 if RootFrame words frame ∷ 5 if ParentHidden words frame carrying ParentNearest words frame ∷ []
+lines (Call.Replace words d) =
+    1 if Short words ∷ 2 if Unsound words ∷ 4 if Absent words d ∷ 5 if Hidden words d carrying Nearest (rowsOf words) d
+    ∷ 8 if UsedUp (tableOf words .nextDoc) ∷ []
 lines (Call.Position words) = 1 if Short words ∷ 2 if Unsound words ∷ []
 lines (Call.Visible words d) = 1 if Short words ∷ 2 if Unsound words ∷ 4 if Absent words d ∷ []
 lines (Call.Lists words takens upcomings) =
@@ -168,6 +183,7 @@ lines (Call.StretchCount takens upcomings δ) = 6 if TooFar takens upcomings δ 
 lines (Call.Outline words room) = 1 if Short words ∷ 2 if Unsound words ∷ 9 if TooShort room (outlineOf (tableOf words)) ∷ []
 lines (Call.Save words room) = 1 if Short words ∷ 2 if Unsound words ∷ 9 if TooShort room (saved (tableOf words)) ∷ []
 lines (Call.Load words bytes) = 1 if Short words ∷ 3 if NotSaved bytes ∷ 7 if (capacity words < length (loaded bytes .rows)) ∷ []
+lines (Call.LoadOld words bytes) = 1 if Short words ∷ 3 if NotSavedThen bytes ∷ 7 if (capacity words < length (oldLoaded bytes .rows)) ∷ []
 lines (Call.SetPlace words places d place) =
     1 if Short words ∷ 2 if Unsound words ∷ 15 if BadPlaces places ∷ 4 if Absent words d ∷ 11 if NotFinite place ∷ 12 if NoEntry words places d ∷ []
 lines (Call.AskPlace words places d) = 1 if Short words ∷ 2 if Unsound words ∷ 15 if BadPlaces places ∷ 4 if Absent words d ∷ []
@@ -217,6 +233,7 @@ paper (Call.Open words parent) = 1
 paper (Call.Navigate words from) = 1
 paper (Call.Traverse words δ room) = 1
 paper (Call.Drop words frame) = 2
+paper (Call.Replace words d) = 2
 paper (Call.Position words) = 1
 paper (Call.Visible words d) = 1
 paper (Call.Lists words takens upcomings) = 1
@@ -225,6 +242,7 @@ paper (Call.StretchCount takens upcomings δ) = 1
 paper (Call.Outline words room) = 1
 paper (Call.Save words room) = 1
 paper (Call.Load words bytes) = 1
+paper (Call.LoadOld words bytes) = 1
 paper (Call.SetPlace words places d place) = 2
 paper (Call.AskPlace words places d) = 2
 paper (Call.AskAtZoom words places d zoom) = 2

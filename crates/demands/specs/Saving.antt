@@ -5,11 +5,13 @@ use mathlib.Core.Logic.{_↔_}
 use mathlib.Core.Path.{_≡_}
 use lib.ListN.{length}
 use Rattle.rules.specs.Words.{put, capacity, tableOf, rowsOf}
+use Rattle.rules.specs.Sound.{Sound}
+use Rattle.rules.specs.OldSaved.{oldSaved}
 use Rattle.rules.specs.Calls.{Call, Answer, _leaving_, outcome}
 use Rattle.rules.specs.Runs.{Move, run}
 use Rattle.demands.specs.Record.{Words32, Bytes, Accepted}
 use Rattle.demands.specs.Standing.{Stands, left}
-use Rattle.demands.specs.Refuses.{NotSaved}
+use Rattle.demands.specs.Refuses.{NotSaved, Rises, NotSavedThen}
 
 -- Save of this record into this room writes these bytes: "the answer is that length and bytes past it are kept".
 abbrev pub Writes : List ℕ → List ℕ → List ℕ → Type 0
@@ -17,7 +19,7 @@ Writes words room bytes = outcome (Call.Save words room) ≡ (length bytes ∷ [
 
 pub record UndoEachOther : Type 0 where
   -- "Saving and loading undo each other": what Save writes, Load takes into any record with room for the rows, "whose earlier words don't matter",
-  -- and the table is the same again.
+  -- and the table is the same again. "Demand 2's round trip is about the new form." (document 02, L7)
   pub load-save : (words room bytes other : List ℕ) → Writes words room bytes → length (rowsOf words) ≤ capacity other →
       Accepted (Call.Load other bytes) × (tableOf (left (Call.Load other bytes)) ≡ tableOf words)
   -- After any moves, refused ones among them, Load gives the saved record back, word for word.
@@ -28,3 +30,14 @@ pub record UndoEachOther : Type 0 where
   pub accepts-only : (words bytes : List ℕ) → Words32 words → Bytes bytes → Accepted (Call.Load words bytes) → (from room : List ℕ) × Stands from × Writes from room bytes
   -- All other bytes, and only they, are refused by 3, if the record is not under 7 words.
   pub refuses-others : (words bytes : List ℕ) → 7 ≤ length words → (outcome (Call.Load words bytes) .answer ≡ Answer.refuses 3 []) ↔ NotSaved bytes
+
+-- "The old form has its own loading call, which accepts exactly what it accepted."
+pub record TakesOld : Type 0 where
+  -- What Save wrote then for a record that was sound then, it takes into any record with room for the rows, and the table is the same again.
+  pub takes : (words other : List ℕ) → Sound words → Rises words → length (rowsOf words) ≤ capacity other →
+      Accepted (Call.LoadOld other (oldSaved (tableOf words))) × (tableOf (left (Call.LoadOld other (oldSaved (tableOf words)))) ≡ tableOf words)
+  -- It takes nothing else: the record that it leaves was sound then, and the bytes are those that Save wrote for it then.
+  pub only : (words bytes : List ℕ) → Accepted (Call.LoadOld words bytes) →
+      Sound (left (Call.LoadOld words bytes)) × Rises (left (Call.LoadOld words bytes)) × (oldSaved (tableOf (left (Call.LoadOld words bytes))) ≡ bytes)
+  -- All other bytes, and only they, are refused by 3, if the record is not under 7 words.
+  pub refuses : (words bytes : List ℕ) → 7 ≤ length words → (outcome (Call.LoadOld words bytes) .answer ≡ Answer.refuses 3 []) ↔ NotSavedThen bytes

@@ -11,7 +11,7 @@ use Rattle.demands.specs.Record.{Words32, Bytes, Accepted}
 abbrev pub Stands : List ℕ → Type 0
 Stands words = Words32 words × Sound words
 
--- The record that Fresh and Load leave.
+-- The record that Fresh and the loading calls leave.
 abbrev pub left : Call → List ℕ
 left c = getD (outcome c .lent) 0 []
 
@@ -20,5 +20,6 @@ pub record Standing : Type 0 where
   pub fresh : (words : List ℕ) → Words32 words → Accepted (Call.Fresh words) → Stands (left (Call.Fresh words))
   -- "Load fills a record [..] from bytes that Save would write for some sound record"
   pub load : (words bytes : List ℕ) → Words32 words → Bytes bytes → Accepted (Call.Load words bytes) → Stands (left (Call.Load words bytes))
-  -- Open, Navigate, Traverse and Drop, refused ones among them.
+  pub load-old : (words bytes : List ℕ) → Words32 words → Bytes bytes → Accepted (Call.LoadOld words bytes) → Stands (left (Call.LoadOld words bytes))
+  -- Open, Navigate, Traverse, Drop and Replace, refused ones among them.
   pub move : (words : List ℕ) → Stands words → (m : Move) → Stands (after words m)

@@ -9,7 +9,7 @@ use Rattle.changes.specs.declared.ChangeRow.{ChangeRow}
 use Rattle.changes.specs.Changes.{plain}
 use Rattle.changes.proofs.Filling.{plain-same}
 use Rattle.determined.specs.Determined.{AtMostOne, OneResult, OnePlace, Determined}
-use Rattle.determined.proofs.Injective.{fresh-injective, opened-injective, navigated-injective, dropped-injective, traversed-injective, standing-injective, sight-injective, listed-injective, stretch-injective, outlined-injective, saving-injective, loading-injective, setting-injective, placed-same, reply-injective, command-injective}
+use Rattle.determined.proofs.Injective.{fresh-injective, opened-injective, navigated-injective, dropped-injective, traversed-injective, standing-injective, sight-injective, listed-injective, stretch-injective, outlined-injective, saving-injective, loading-injective, setting-injective, placed-same, reply-injective, command-injective, replaced-injective}
 use Rattle.determined.proofs.Shifts.{shift-alike}
 
 -- No two results of a call have one answer: then its outcome tells the result, with the lent runs.
@@ -32,6 +32,7 @@ determined =
       open-frame = λ words parent. alike opened-injective (Call.Open words parent);
       navigate = λ words from. alike navigated-injective (Call.Navigate words from);
       drop-frame = λ words frame. alike dropped-injective (Call.Drop words frame);
+      replace = λ words d. alike replaced-injective (Call.Replace words d);
       traverse = λ words δ room. alike traversed-injective (Call.Traverse words δ room);
       position = λ words. alike standing-injective (Call.Position words);
       visible = λ words d. alike sight-injective (Call.Visible words d);
@@ -40,6 +41,7 @@ determined =
       outline = λ words room. alike outlined-injective (Call.Outline words room);
       save = λ words room. alike saving-injective (Call.Save words room);
       load = λ words bytes. alike loading-injective (Call.Load words bytes);
+      load-old = λ words bytes. alike loading-injective (Call.LoadOld words bytes);
       set-place = λ words places d place. alike setting-injective (Call.SetPlace words places d place);
       place = λ words places d. place-alike (Call.AskPlace words places d);
       place-at-zoom = λ words places d zoom. place-alike (Call.AskAtZoom words places d zoom);

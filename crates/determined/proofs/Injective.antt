@@ -19,6 +19,8 @@ use Rattle.navigates.specs.declared.Navigated.the-variants as Navigateds
 use Rattle.navigates.specs.Answers.{navigatedIs}
 use Rattle.drops.specs.declared.Dropped.the-variants as Droppeds
 use Rattle.drops.specs.Answers.{droppedIs}
+use Rattle.replaces.specs.declared.Replaced.the-variants as Replaceds
+use Rattle.replaces.specs.Answers.{replacedIs}
 use Rattle.traverses.specs.declared.Traversed.the-variants as Traverseds
 use Rattle.traverses.specs.Answers.{traversedIs}
 use Rattle.asks.specs.declared.Standing.the-variants as Standings
@@ -30,8 +32,8 @@ use Rattle.outlines.specs.declared.Outlined.the-variants as Outlines
 use Rattle.outlines.specs.Answers.{outlinedIs}
 use Rattle.saved.specs.declared.Saving.the-variants as Savings
 use Rattle.saved.specs.Answers.{savingIs}
-use Rattle.loads.specs.declared.Loading.the-variants as Loadings
-use Rattle.loads.specs.Answers.{loadingIs}
+use Rattle.told.specs.declared.Loading.the-variants as Loadings
+use Rattle.told.specs.Answers.{loadingIs}
 use Rattle.points.specs.declared.Place.the-variants.{Itself, At}
 use Rattle.places.specs.declared.Placed.{Placed}
 use Rattle.places.specs.declared.Placed.the-variants as Placeds
@@ -95,6 +97,11 @@ pub dropped-injective : Injective droppedIs
 dropped-injective =
     told-back droppedIs (λ v. Droppeds.Rows (getD v 0 0)) Droppeds.Refused
     λ r. elim r [ Droppeds.Rows n ↦ refl | Droppeds.Refused k ↦ ap Droppeds.Refused (refusal-back k) ]
+
+pub replaced-injective : Injective replacedIs
+replaced-injective =
+    told-back replacedIs (λ v. Replaceds.Arrived (record { 0 = getD v 0 0 })) Replaceds.Refused
+    λ r. elim r [ Replaceds.Arrived d ↦ refl | Replaceds.Refused k ↦ ap Replaceds.Refused (refusal-back k) ]
 
 pub traversed-injective : Injective traversedIs
 traversed-injective =
@@ -169,10 +176,11 @@ readBy (Command.opens d) = Reads.Open (record { 0 = d })
 readBy (Command.navs d) = Reads.Nav (record { 0 = d })
 readBy (Command.goes δ) = Reads.Go δ
 readBy (Command.drops f) = Reads.Drop (record { 0 = f })
+readBy (Command.replaces d) = Reads.Replace (record { 0 = d })
 readBy Command.bad = Reads.Bad
 
 pub command-injective : Injective commandIs
 unfolding readBy
 command-injective =
     LeftInverse·injective readBy commandIs
-    λ r. elim r [ Reads.Open d ↦ refl | Reads.Nav d ↦ refl | Reads.Go δ ↦ refl | Reads.Drop f ↦ refl | Reads.Bad ↦ refl ]
+    λ r. elim r [ Reads.Open d ↦ refl | Reads.Nav d ↦ refl | Reads.Go δ ↦ refl | Reads.Drop f ↦ refl | Reads.Replace d ↦ refl | Reads.Bad ↦ refl ]

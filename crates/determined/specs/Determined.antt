@@ -10,6 +10,7 @@ use Rattle.rules.specs.Calls.{Call, Answer, outcome}
 use Rattle.moves.specs.Answers.{freshIs, openedIs}
 use Rattle.navigates.specs.Answers.{navigatedIs}
 use Rattle.drops.specs.Answers.{droppedIs}
+use Rattle.replaces.specs.Answers.{replacedIs}
 use Rattle.traverses.specs.declared.Traversed.{Traversed}
 use Rattle.traverses.specs.declared.Shifted.{Shifted}
 use Rattle.traverses.specs.Answers.{traversedIs, answerOf, tripOf, tripText, Shifts}
@@ -18,7 +19,7 @@ use Rattle.changes.specs.Changes.{plain}
 use Rattle.asks.specs.Answers.{standingIs, sightIs, listedIs, stretchIs}
 use Rattle.outlines.specs.Answers.{outlinedIs}
 use Rattle.saved.specs.Answers.{savingIs}
-use Rattle.loads.specs.Answers.{loadingIs}
+use Rattle.told.specs.Answers.{loadingIs}
 use Rattle.points.specs.Points.{placeIs}
 use Rattle.places.specs.declared.Placed.{Placed}
 use Rattle.places.specs.declared.Placed.the-variants.{Stands, Refused}
@@ -52,6 +53,7 @@ pub record Determined : Type 0 where
   pub open-frame : (words : List ℕ) (parent : ℕ) → OneResult openedIs (Call.Open words parent)
   pub navigate : (words : List ℕ) (from : ℕ) → OneResult navigatedIs (Call.Navigate words from)
   pub drop-frame : (words : List ℕ) (frame : ℕ) → OneResult droppedIs (Call.Drop words frame)
+  pub replace : (words : List ℕ) (d : ℕ) → OneResult replacedIs (Call.Replace words d)
   pub traverse : (words : List ℕ) (δ : ℤ) (room : List ℕ) → OneResult traversedIs (Call.Traverse words δ room)
   pub position : (words : List ℕ) → OneResult standingIs (Call.Position words)
   pub visible : (words : List ℕ) (d : ℕ) → OneResult sightIs (Call.Visible words d)
@@ -60,6 +62,7 @@ pub record Determined : Type 0 where
   pub outline : (words room : List ℕ) → OneResult outlinedIs (Call.Outline words room)
   pub save : (words room : List ℕ) → OneResult savingIs (Call.Save words room)
   pub load : (words bytes : List ℕ) → OneResult loadingIs (Call.Load words bytes)
+  pub load-old : (words bytes : List ℕ) → OneResult loadingIs (Call.LoadOld words bytes)
   pub set-place : (words places : List ℕ) (d : ℕ) (place : Place) → OneResult settingIs (Call.SetPlace words places d place)
   pub place : (words places : List ℕ) (d : ℕ) → OnePlace (Call.AskPlace words places d)
   pub place-at-zoom : (words places : List ℕ) (d : ℕ) (zoom : Float) → OnePlace (Call.AskAtZoom words places d zoom)

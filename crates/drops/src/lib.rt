@@ -3,14 +3,13 @@
 // What bounds it, for n rows: one pass over them, up to the frame's first row in search of it and from there on closing the gaps. On the way a row looks back for its parent
 // among the rows kept so far, and not at all where that is the parent found last or the one missed last.
 use asks::Hider;
-use base::DocNo;
 use base::FrameNo;
 use base::Refusal;
 use base::RowPlace;
+use packs::Keeping;
 use reads::NONE;
 use sound::Check;
 ghost use mathlib.Core.Path.{_≡_};
-ghost use mathlib.Core.Bool.{cond};
 ghost use mathlib.Core.List.{[], _∷_};
 ghost use Prim.Native.Nat.{_-_, _≤_, _<_};
 ghost use lib.ListN.{length};
@@ -58,34 +57,26 @@ fn judge(words: &[u32], frame: FrameNo, first: RowPlace) -> Check
     }
 }
 
-// One document or the other.
-fn either(first: bool, a: DocNo, b: DocNo) -> DocNo
-    ensures { λ r. ⌜ r .0 ≡ cond first (a .0) (b .0) ⌝ }
-{
-    if first { a } else { b }
-}
-
 // Removes what goes and closes the gaps: the rows before the frame's first stay where they are, and that one goes. How many rows stay.
 fn close_gaps(words: &mut [u32], first: RowPlace, frame: FrameNo) -> usize
     requires { ⌜ Examined (now words) × (tableOf (now words) .nextDoc ≤ none) × (first .0 ≡ firstRow (rowsOf (now words)) (frame .0)) × (first .0 < length (rowsOf (now words))) ⌝ }
     ensures { λ r. ⌜ Over (without (inFrame (rowsOf (now (words .entry))) (frame .0)) (rowsOf (now (words .entry)))) (now (words .entry)) r (now (words .exit)) ⌝ }
 {
     let n = rows::row_count(words);
-    let mut found = reads::parent(words, first);
-    let mut missed = reads::document(words, first);
-    let mut k = first.0;
+    let found = reads::parent(words, first);
+    let missed = reads::document(words, first);
+    let mut kept = Keeping {
+        rows: first.0,
+        found,
+        missed,
+    };
     let mut i = first.0 + 1;
     while i < n {
-        let at = RowPlace(i);
-        let up = reads::parent(words, at);
-        let upheld = packs::parent_known(words, at, k, found, missed);
-        let stays = (reads::frame(words, at).0 != frame.0) & upheld;
-        k = packs::keep_row(words, at, k, stays);
-        found = either(upheld, up, found);
-        missed = either(upheld, missed, up);
+        let passes = reads::frame(words, RowPlace(i)).0 == frame.0;
+        kept = packs::turn(words, RowPlace(i), passes, kept);
         i += 1;
     }
-    k
+    kept.rows
 }
 
 // Takes the frame out where no refusal is given, of a sound record in which it begins there. How many rows went.

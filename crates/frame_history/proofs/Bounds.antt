@@ -1,7 +1,8 @@
 -- The counts that a call gives fit in an out word. Assumes nothing.
 use Prim.Native.Nat.{ℕ, _-_, _*_, _/_, _≤_}
+use mathlib.Core.Bool.{Bool}
 use mathlib.Core.List.{List, [], _∷_, flatMap}
-use mathlib.Core.Path.{_≡_, refl, sym, ap, _∙_}
+use mathlib.Core.Path.{_≡_, refl, sym, ap, subst, _∙_}
 use native.Mathlib.Omega.{arith}
 use lib.Dec.{eqb}
 use lib.IntN.{ℤ, pos, negsuc, natAbs}
@@ -14,15 +15,17 @@ use Rattle.rules.specs.Steps.{position, steps, scriptLength}
 use Rattle.rules.specs.Moves.{walked, frames, changeRow, changes, shownDoc}
 use Rattle.rules.specs.Words.{capacity, tableOf, rowsOf}
 use Rattle.rules.specs.Asks.{takenList, upcomingList, outlineOf}
-use Rattle.rules.specs.Saved.{saved, loaded}
+use Rattle.rules.specs.Saved.{saved}
 use Rattle.rules.specs.Calls.{Call, Answer, refusals, accepted, outcome, NoneGiven}
+use Rattle.laws.specs.Loading.{IsLoad}
 use Rattle.laws.proofs.Tests.{test}
 use Rattle.laws.proofs.Calls.{by-ladder, outcome-accepted, outcome-refused}
 use Rattle.laws.proofs.Central.{position-steps}
 use Rattle.laws.proofs.Reflect.{sound-is}
 use Rattle.laws.proofs.Standing.{steps-most}
 use Rattle.laws.proofs.Lists.{taken-length, upcoming-length}
-use Rattle.laws.proofs.Trips.{saved-length, frames-few}
+use Rattle.laws.proofs.Trips.{frames-few}
+use Rattle.laws.proofs.Loads.{saved-length}
 use Rattle.laws.proofs.Outlines.{outline-bound}
 use Rattle.traverses.specs.declared.Traversed.{Traversed}
 use Rattle.traverses.specs.declared.Traversed.the-variants.{Changes, Refused}
@@ -77,18 +80,8 @@ module _ (words : List ℕ) (a : Answer) (runs : List (List ℕ)) where
       let n = upcoming-length (rowsOf words) (s .s6) (s .s7) in
       (omega arith, omega arith)
 
-  -- The rows of loaded bytes.
-  pub load-small : (bytes : List ℕ) (n : ℕ) → outcome (Call.Load words bytes) ≡ record { answer = a; lent = runs } → a ≡ Answer.gives (n ∷ []) → n ≤ 512
-  unfolding refusals NoneGiven accepted
-  load-small bytes n e g =
-      let h = not-refused (Call.Load words bytes) a runs _ e g in
-      let v = given-is (Call.Load words bytes) a runs _ e g in
-      let x : length (loaded bytes .rows) ≡ n = ap (value 0) v in
-      let m : length (loaded bytes .rows) ≤ capacity words = ltb-false _ _ (h .1 .1 .0) in
-      omega arith
-
   -- The length of the saved form.
-  pub save-small : (room : List ℕ) (n : ℕ) → outcome (Call.Save words room) ≡ record { answer = a; lent = runs } → a ≡ Answer.gives (n ∷ []) → n ≤ 10252
+  pub save-small : (room : List ℕ) (n : ℕ) → outcome (Call.Save words room) ≡ record { answer = a; lent = runs } → a ≡ Answer.gives (n ∷ []) → n ≤ 12300
   unfolding refusals NoneGiven accepted
   save-small room n e g =
       let h = not-refused (Call.Save words room) a runs _ e g in
@@ -106,6 +99,16 @@ module _ (words : List ℕ) (a : Answer) (runs : List (List ℕ)) where
       let x : length (outlineOf (tableOf words)) / 2 ≡ n = ap (value 0) v in
       let s = sound-is words .0 (not-false _ (h .1 .0)) .table in
       omega (arith, outline-bound (tableOf words) _ s w, s .s1 .fits)
+
+-- The rows of loaded bytes, by either call.
+pub load-small : {c : Call} {words : List ℕ} {taken : Bool} {t : Table} → IsLoad c words taken t → (a : Answer) (runs : List (List ℕ)) (n : ℕ) → outcome c ≡ record { answer = a; lent = runs } → a ≡ Answer.gives (n ∷ []) → n ≤ 512
+unfolding NoneGiven
+load-small {c} {words} {taken} {t} is a runs n e g =
+    let h = subst NoneGiven (is .refuses) (not-refused c a runs _ e g) in
+    let v = given-is c a runs _ e g in
+    let x : length (t .rows) ≡ n = ap (λ o. value 0 (o .answer)) (sym (is .accepts)) ∙ ap (value 0) v in
+    let m : length (t .rows) ≤ capacity words = ltb-false _ _ (h .1 .1 .0) in
+    omega arith
 
 -- Four words a change row, and no more rows than frames.
 change-few : (before after : List Row) (f : ℕ) → length (changeRow before after f) ≤ 4

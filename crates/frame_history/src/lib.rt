@@ -10,7 +10,6 @@ use base::FrameNo;
 use base::Refusal;
 use changes::ChangeRow;
 use drops::Dropped;
-use loads::Loading;
 use moves::Freshened;
 use moves::Opened;
 use navigates::Navigated;
@@ -20,7 +19,9 @@ use places::Setting;
 use points::Place;
 use points::Point;
 use reads::NONE;
+use replaces::Replaced;
 use saved::Saving;
+use told::Loading;
 use traverses::Traversed;
 ghost use mathlib.Core.Path.{_≡_};
 ghost use mathlib.Core.List.{[], _∷_};
@@ -118,6 +119,26 @@ pub extern "C" fn frame_history_drop(
             0
         }
         Dropped::Refused(r) => refused(r, hiding),
+    }
+}
+
+// Replaces a visible document in its own row: the number of the new one.
+#[no_mangle]
+pub extern "C" fn frame_history_replace(
+    words: &mut [u32],
+    document: u32,
+    replacement: &mut u32,
+    hiding: &mut u32,
+) -> u32
+    ensures { λ r. ⌜ hidingFace (outcome (Call.Replace (now (words .entry)) document)) (now (replacement .entry) ∷ []) (now (hiding .entry))
+        ≡ record { seen = record { number = r; outs = now (replacement .exit) ∷ []; lent = now (words .exit) ∷ [] }; hiding = now (hiding .exit) } ⌝ }
+{
+    match replaces::replace(words, DocNo(document)) {
+        Replaced::Arrived(d) => {
+            *replacement = d.0;
+            0
+        }
+        Replaced::Refused(r) => refused(r, hiding),
     }
 }
 
@@ -295,6 +316,21 @@ pub extern "C" fn frame_history_load(words: &mut [u32], bytes: &[u8], rows: &mut
         ≡ record { number = r; outs = now (rows .exit) ∷ []; lent = now (words .exit) ∷ [] } ⌝ }
 {
     match loads::load(words, bytes) {
+        Loading::Rows(n) => {
+            *rows = n as u32;
+            0
+        }
+        Loading::Refused(r) => base::refusal_number(r),
+    }
+}
+
+// Fills a record from bytes of the old form: how many rows it has.
+#[no_mangle]
+pub extern "C" fn frame_history_load_old(words: &mut [u32], bytes: &[u8], rows: &mut u32) -> u32
+    ensures { λ r. ⌜ face (outcome (Call.LoadOld (now (words .entry)) (now (bytes .entry)))) (now (rows .entry) ∷ [])
+        ≡ record { number = r; outs = now (rows .exit) ∷ []; lent = now (words .exit) ∷ [] } ⌝ }
+{
+    match loads_old::load_old(words, bytes) {
         Loading::Rows(n) => {
             *rows = n as u32;
             0

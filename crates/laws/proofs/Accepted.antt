@@ -1,4 +1,4 @@
--- What an accepted Open, Navigate or Drop may rely on. Assumes nothing.
+-- What an accepted Open, Navigate, Drop or Replace may rely on. Assumes nothing.
 use Prim.Native.Nat.{ℕ, _≤_, _<_}
 use mathlib.Core.List.{List}
 use mathlib.Core.Logic.{_≢_}
@@ -6,7 +6,7 @@ use mathlib.Core.Bool.{Bool, true, false, _||_, So}
 use mathlib.Core.Path.{_≡_, refl}
 use lib.ListN.{length}
 use borrow.Author.Tests.{ltb-false, leb-false, eqb-false, not-false}
-use Rattle.rules.specs.Rows.{none, isFrame}
+use Rattle.rules.specs.Rows.{none, inRecord, isFrame}
 use Rattle.rules.specs.Steps.{visible}
 use Rattle.rules.specs.Moves.{cleared}
 use Rattle.rules.specs.Words.{capacity, tableOf, rowsOf}
@@ -76,4 +76,23 @@ drop-relies words f h =
       there = not-false _ (h .1 .1 .0);
       child = eqb-false _ _ (h .1 .1 .1 .0);
       seen = not-false _ (h .1 .1 .1 .1 .0);
+    }
+
+-- Of document d.
+pub record Replaces (words : List ℕ) (d : ℕ) : Type 0 where
+  pub long : 7 ≤ length words
+  pub sound : Sound words
+  pub there : So (inRecord (rowsOf words) d)
+  pub seen : So (visible (rowsOf words) d)
+  pub doc : tableOf words .nextDoc ≢ none
+
+pub replace-relies : (words : List ℕ) (d : ℕ) → NoneGiven (refusals (Call.Replace words d)) → Replaces words d
+unfolding refusals NoneGiven
+replace-relies words d h =
+    record {
+      long = ltb-false _ _ (h .0);
+      sound = sound-is words .0 (not-false _ (h .1 .0));
+      there = not-false _ (h .1 .1 .0);
+      seen = not-false _ (h .1 .1 .1 .0);
+      doc = eqb-false _ _ (h .1 .1 .1 .1 .0);
     }

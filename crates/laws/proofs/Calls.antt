@@ -1,9 +1,14 @@
 -- Laws of the ladder of refusals, over all calls. Assumes nothing.
 use Prim.Native.Nat.{ℕ}
+use mathlib.Core.Bool.{Bool}
 use mathlib.Core.List.{List, [], _∷_, _++_}
 use mathlib.Core.Logic.{_↔_, inl, inr, ⊎-elim}
 use mathlib.Core.Path.{_≡_, refl, sym, ap, subst, _∙_}
 use Rattle.rules.specs.Calls.{Call, Answer, Outcome, Rung, lentTo, refusals, accepted, ladder, outcome, Given, NoneGiven}
+use Rattle.rules.specs.Rows.{Table}
+use Rattle.rules.specs.Saved.{loaded, fromSave?}
+use Rattle.rules.specs.OldSaved.{oldLoaded, fromOldSave?}
+use Rattle.laws.specs.Loading.{loading, IsLoad}
 use Rattle.laws.proofs.Tests.{test}
 
 abbrev numberIn : Answer → ℕ
@@ -63,6 +68,7 @@ accepted-gives c k vs e = subst IsGiven e (given c)
     given (Call.Navigate words from) = tt
     given (Call.Traverse words δ room) = tt
     given (Call.Drop words frame) = tt
+    given (Call.Replace words d) = tt
     given (Call.Position words) = tt
     given (Call.Visible words d) = tt
     given (Call.Lists words takens upcomings) = tt
@@ -71,6 +77,7 @@ accepted-gives c k vs e = subst IsGiven e (given c)
     given (Call.Outline words room) = tt
     given (Call.Save words room) = tt
     given (Call.Load words bytes) = tt
+    given (Call.LoadOld words bytes) = tt
     given (Call.SetPlace words places d place) = tt
     given (Call.AskPlace words places d) = tt
     given (Call.AskAtZoom words places d zoom) = tt
@@ -99,3 +106,17 @@ module _ (c : Call) where
   -- And then every lent run reads as before.
   pub refused-keeps : (k : ℕ) (vs : List ℕ) → outcome c .answer ≡ Answer.refuses k vs → outcome c .lent ≡ lentTo c
   refused-keeps k vs e = ap (λ o. o .lent) (outcome-refused k vs (refused-when k vs .0 e))
+
+-- LOADING CALLS
+
+pub load-is : (words bytes : List ℕ) → IsLoad (Call.Load words bytes) words (fromSave? bytes) (loaded bytes)
+unfolding refusals accepted
+load-is words bytes = record { lends = refl; refuses = refl; accepts = refl }
+
+pub load-old-is : (words bytes : List ℕ) → IsLoad (Call.LoadOld words bytes) words (fromOldSave? bytes) (oldLoaded bytes)
+unfolding refusals accepted
+load-old-is words bytes = record { lends = refl; refuses = refl; accepts = refl }
+
+pub load-outcome : {c : Call} {words : List ℕ} {taken : Bool} {t : Table} → IsLoad c words taken t → outcome c ≡ loading words taken t
+unfolding outcome loading
+load-outcome is = rw (is .lends, is .refuses, is .accepts) refl

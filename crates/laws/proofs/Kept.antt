@@ -7,7 +7,7 @@ use native.Mathlib.Omega.{arith}
 use lib.ListN.{length}
 use Rattle.rules.specs.Below.{count, gather}
 use Rattle.rules.specs.Rows.{Row, noRow, rowAt, frameAt, marked}
-use Rattle.rules.specs.Steps.{step, isStep, taken, position, steps}
+use Rattle.rules.specs.Steps.{step, isStep, reached, taken, position, steps}
 use Rattle.rules.specs.Sound.{S6, S7}
 use Rattle.laws.proofs.Tests.{test, clash, off, same-tests, count-in, count-le, count-flat, count-mono, count-same, count-split, nth, by-order, by-lt}
 use Rattle.laws.proofs.Tests.{length-gather, gather-at, gather-is}
@@ -158,3 +158,17 @@ module _ (keep : ℕ → Bool) (rows : List Row) (s6 : S6 rows) (s7 : S7 rows) (
 
   pub kept-S7 : S7 (kept keep rows)
   kept-S7 = subst S7 kept-fixed (at-S7 _ (kept keep rows))
+
+  -- A kept step is taken, or upcoming, as it was.
+  firsts : (j k : ℕ) → j ≤ k → k < length rows → frameAt rows j ≡ frameAt rows k → isStep rows j ≡ false → So (keep k) → So (keep j)
+  firsts j k a b e f = whole j k (omega arith) b e (due-first _ (position rows) j f)
+
+  pub kept-step : (k : ℕ) → k < length rows → So (keep k) → isStep (kept keep rows) (count keep k) ≡ isStep rows k
+  kept-step = step-kept (length rows) (frameAt rows) (frameAt (kept keep rows)) keep (kept-frames keep rows) firsts
+
+  pub kept-reached : (k : ℕ) → k < length rows → So (keep k) → reached (kept keep rows) (count keep k) ≡ reached rows k
+  kept-reached k l t =
+      reached-is (kept keep rows) kept-S6 kept-S7 (count keep k) (omega (arith, kept-length keep rows, count-in keep (length rows) l t))
+      ∙ ap (λ p. due (frameAt (kept keep rows)) p (count keep k)) (kept-position ∙ sym keptTaken)
+      ∙ due-kept (length rows) (frameAt rows) (frameAt (kept keep rows)) keep (kept-frames keep rows) firsts (position rows) k l t
+      ∙ sym (reached-is rows s6 s7 k l)

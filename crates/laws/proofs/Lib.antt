@@ -8,6 +8,7 @@ pub mod Tree
 pub mod Climb
 pub mod Removal
 pub mod Drop
+pub mod Replace
 pub mod Navigate
 pub mod Travel
 pub mod Lists
@@ -20,9 +21,12 @@ pub mod Calls
 pub mod Accepted
 pub mod Pieces
 pub mod Numbers
+pub mod Once
 pub mod Told
 pub mod Trips
 pub mod Loads
+pub mod OldLoads
+pub mod Resaved
 pub mod Appended
 pub mod OutlineTexts
 pub mod OutlineWeights

@@ -1,4 +1,4 @@
--- What Save writes, as a list of numbers. Assumes nothing.
+-- What Save writes, as a list of numbers, in both forms of the bodies. Assumes nothing.
 use Prim.Native.Nat.{ℕ, zero, suc, _+_, _*_, _≤_, _<_}
 use mathlib.Core.List.{List, [], _∷_, _++_, flatMap}
 use mathlib.Core.Path.{_≡_, refl, sym, ap, ap₂, _∙_}
@@ -6,11 +6,12 @@ use native.Mathlib.Nat.{not-suc-le-zero}
 use native.Mathlib.Omega.{arith}
 use lib.ListN.{length, getD, length-append, List·getD-append}
 use lib.Seq.{getD-append-add}
-use Rattle.rules.specs.Below.{sum, tab}
-use Rattle.rules.specs.Rows.{Row, Table}
+use Rattle.rules.specs.Below.{count, sum, tab, rising}
+use Rattle.rules.specs.Rows.{Row, Table, docAt, inFrame}
 use Rattle.rules.specs.Moves.{frames}
-use Rattle.rules.specs.Saved.{number, docsOf, shownPlace, parentOf, contents, body, saved, numberAt}
-use Rattle.laws.proofs.Tests.{tab-is}
+use Rattle.rules.specs.Saved.{number, docsOf, shownPlace, parentOf, contents, savedWith, body, numberAt}
+use Rattle.rules.specs.OldSaved.{oldBody}
+use Rattle.laws.proofs.Tests.{tab-is, length-gather}
 use Rattle.laws.proofs.Pieces.{flat-append, before, length-flat, flat-at, sum-within, sum-fours}
 
 -- NUMBERS
@@ -34,113 +35,207 @@ number-read [] i l = absurd (not-suc-le-zero l)
 number-read (x ∷ xs) zero l = omega arith
 number-read (x ∷ xs) (suc i) l = read-past (number x) (flatMap number xs) (4 * i) (4 * suc i) (omega arith) ∙ number-read xs i (omega arith)
 
+-- FORMS
+
+-- A form of the bodies: what stands in the body of a frame, as bytes and as numbers.
+pub record Form : Type 0 where
+  pub body : List Row → ℕ → List ℕ
+  pub cells : List Row → ℕ → List ℕ
+  pub spelt : (rows : List Row) (f : ℕ) → body rows f ≡ flatMap number (cells rows f)
+
+-- The old one.
+pub old-spelt : (rows : List Row) (f : ℕ) → oldBody rows f ≡ flatMap number (docsOf rows f)
+unfolding oldBody
+old-spelt rows f = refl
+
+abbrev pub oldForm : Form
+oldForm = record { body = oldBody; cells = docsOf; spelt = old-spelt }
+
+-- With row places: the numbers of row i, and of the body of frame f.
+abbrev pub pair : List Row → ℕ → List ℕ
+pair rows i = docAt rows i ∷ i ∷ []
+
+unfoldable pub pairsOf : List Row → ℕ → List ℕ
+pairsOf rows f = flatMap (pair rows) (rising (inFrame rows f) (length rows))
+
+pairs-spelt : (rows : List Row) (is : List ℕ) → flatMap (λ i. number (docAt rows i) ++ number i) is ≡ flatMap number (flatMap (pair rows) is)
+unfolding flatMap number
+pairs-spelt rows [] = refl
+pairs-spelt rows (i ∷ is) = rw (pairs-spelt rows is)
+
+pub new-spelt : (rows : List Row) (f : ℕ) → body rows f ≡ flatMap number (pairsOf rows f)
+unfolding body pairsOf
+new-spelt rows f = pairs-spelt rows (rising (inFrame rows f) (length rows))
+
+abbrev pub newForm : Form
+newForm = record { body = body; cells = pairsOf; spelt = new-spelt }
+
+-- A frame has so many documents.
+pub length-docsOf : (rows : List Row) (f : ℕ) → length (docsOf rows f) ≡ count (inFrame rows f) (length rows)
+unfolding docsOf
+length-docsOf rows f = length-gather (inFrame rows f) (docAt rows) (length rows)
+
+module _ (rows : List Row) where
+  length-pairs : (is : List ℕ) → length (flatMap (pair rows) is) ≡ 2 * length is
+  unfolding flatMap
+  length-pairs [] = refl
+  length-pairs (i ∷ is) = let h = length-pairs is in omega arith
+
+  -- Number c of entry k.
+  pair-at : (is : List ℕ) (k c : ℕ) → k < length is → c < 2 → getD (flatMap (pair rows) is) (2 * k + c) 0 ≡ getD (pair rows (getD is k 0)) c 0
+  unfolding flatMap
+  pair-at [] k c l m = absurd (not-suc-le-zero l)
+  pair-at (i ∷ is) zero c l m =
+      let e : 2 * 0 + c ≡ c = omega arith in
+      rw e (List·getD-append (pair rows i) (flatMap (pair rows) is) 0 c (omega arith))
+  pair-at (i ∷ is) (suc k) c l m =
+      let e : 2 * suc k + c ≡ length (pair rows i) + (2 * k + c) = omega arith in
+      rw e (getD-append-add (pair rows i) (flatMap (pair rows) is) (2 * k + c) 0 ∙ pair-at is k c (omega arith) m)
+
+  module _ (f : ℕ) where
+    pub its-many : length (rising (inFrame rows f) (length rows)) ≡ length (docsOf rows f)
+    its-many = length-gather (inFrame rows f) (λ k. k) (length rows) ∙ sym (length-docsOf rows f)
+
+    length-pairsOf : length (pairsOf rows f) ≡ 2 * length (docsOf rows f)
+    unfolding pairsOf
+    length-pairsOf = omega (arith, length-pairs (rising (inFrame rows f) (length rows)), its-many)
+
+    pairs-at : (k c : ℕ) → k < length (docsOf rows f) → c < 2 → getD (pairsOf rows f) (2 * k + c) 0 ≡ getD (pair rows (getD (rising (inFrame rows f) (length rows)) k 0)) c 0
+    unfolding pairsOf
+    pairs-at k c l m = pair-at (rising (inFrame rows f) (length rows)) k c (omega (arith, its-many)) m
+
 -- THE NUMBERS OF A TABLE
 
-unfoldable pub entry : List Row → ℕ → List ℕ
-entry rows f = f ∷ parentOf rows f ∷ length (docsOf rows f) ∷ shownPlace rows f ∷ []
+-- What the contents say of frame f.
+unfoldable pub entryOf : List Row → ℕ → List ℕ
+entryOf rows f = f ∷ parentOf rows f ∷ length (docsOf rows f) ∷ shownPlace rows f ∷ []
 
-entries : (rows : List Row) (fs : List ℕ) → flatMap (contents rows) fs ≡ flatMap number (flatMap (entry rows) fs)
-unfolding flatMap contents entry number
+entries : (rows : List Row) (fs : List ℕ) → flatMap (contents rows) fs ≡ flatMap number (flatMap (entryOf rows) fs)
+unfolding flatMap contents entryOf number
 entries rows [] = refl
 entries rows (f ∷ fs) = rw (entries rows fs)
 
-bodies : (rows : List Row) (fs : List ℕ) → flatMap (body rows) fs ≡ flatMap number (flatMap (docsOf rows) fs)
-unfolding flatMap body
-bodies rows [] = refl
-bodies rows (f ∷ fs) = ap (λ l. flatMap number (docsOf rows f) ++ l) (bodies rows fs) ∙ sym (flat-append number (docsOf rows f) (flatMap (docsOf rows) fs))
+-- The j-th frame, and how many documents it has.
+abbrev pub frameNo : Table → ℕ → ℕ
+frameNo t j = getD (frames t) j 0
 
-unfoldable pub numbersOf : Table → List ℕ
-numbersOf t =
-    length (frames t) ∷ t .nextDoc ∷ t .nextFrame ∷ (flatMap (entry (t .rows)) (frames t) ++ flatMap (docsOf (t .rows)) (frames t))
+abbrev pub documents : Table → ℕ → ℕ
+documents t j = length (docsOf (t .rows) (frameNo t j))
 
-pub saved-is : (t : Table) → saved t ≡ flatMap number (numbersOf t)
-unfolding saved numbersOf flatMap
-saved-is t =
-    rw (entries (t .rows) (frames t), bodies (t .rows) (frames t), flat-append number)
+pub frames-tab : (t : Table) → frames t ≡ tab (length (frames t)) (frameNo t)
+frames-tab t = tab-is (frameNo t) (frames t) (length (frames t)) 0 refl (λ k l. refl)
+
+module _ (m : Form) where
+  bodies : (rows : List Row) (fs : List ℕ) → flatMap (m .body rows) fs ≡ flatMap number (flatMap (m .cells rows) fs)
+  unfolding flatMap
+  bodies rows [] = refl
+  bodies rows (f ∷ fs) =
+      ap (λ l. l ++ flatMap (m .body rows) fs) (m .spelt rows f) ∙ ap (λ l. flatMap number (m .cells rows f) ++ l) (bodies rows fs)
+      ∙ sym (flat-append number (m .cells rows f) (flatMap (m .cells rows) fs))
+
+  unfoldable pub numbersOf : Table → List ℕ
+  numbersOf t =
+      length (frames t) ∷ t .nextDoc ∷ t .nextFrame ∷ (flatMap (entryOf (t .rows)) (frames t) ++ flatMap (m .cells (t .rows)) (frames t))
+
+  pub saved-is : (t : Table) → savedWith (m .body) t ≡ flatMap number (numbersOf t)
+  unfolding savedWith numbersOf flatMap
+  saved-is t =
+      rw (entries (t .rows) (frames t), bodies (t .rows) (frames t), flat-append number)
+
+  module _ (t : Table) where
+    abbrev bytes : List ℕ
+    bytes = savedWith (m .body) t
+
+    -- How many numbers the body of the j-th frame has.
+    abbrev pub cellsOf : ℕ → ℕ
+    cellsOf j = length (m .cells (t .rows) (frameNo t j))
+
+    pub length-cells : length (flatMap (m .cells (t .rows)) (frames t)) ≡ sum cellsOf (length (frames t))
+    length-cells = ap (λ l. length (flatMap (m .cells (t .rows)) l)) (frames-tab t) ∙ length-flat (m .cells (t .rows)) (frameNo t) (length (frames t))
+
+    entries-before : (j : ℕ) → before (entryOf (t .rows)) (frameNo t) j ≡ 4 * j
+    unfolding entryOf
+    entries-before j = sum-fours _ j (λ k l. refl)
+
+    length-entries : length (flatMap (entryOf (t .rows)) (frames t)) ≡ 4 * length (frames t)
+    length-entries =
+        ap (λ l. length (flatMap (entryOf (t .rows)) l)) (frames-tab t) ∙ length-flat (entryOf (t .rows)) (frameNo t) (length (frames t)) ∙ entries-before (length (frames t))
+
+    length-numbersOf : length (numbersOf t) ≡ 3 + (4 * length (frames t) + sum cellsOf (length (frames t)))
+    unfolding numbersOf
+    length-numbersOf =
+        omega (arith, length-append (flatMap (entryOf (t .rows)) (frames t)) (flatMap (m .cells (t .rows)) (frames t)), length-entries, length-cells)
+
+    pub length-saved : length bytes ≡ 12 + 16 * length (frames t) + 4 * sum cellsOf (length (frames t))
+    length-saved = ap length (saved-is t) ∙ omega (arith, length-numbers (numbersOf t), length-numbersOf)
+
+    -- READING
+
+    read : (i at : ℕ) → i < length (numbersOf t) → at ≡ 4 * i → numberAt bytes at ≡ getD (numbersOf t) i 0
+    read i at l e = ap (λ k. numberAt bytes k) e ∙ ap (λ l. numberAt l (4 * i)) (saved-is t) ∙ number-read (numbersOf t) i l
+
+    pub read-count : numberAt bytes 0 ≡ length (frames t)
+    unfolding numbersOf
+    read-count = read 0 0 (omega (arith, length-numbersOf)) refl
+
+    pub read-next-doc : numberAt bytes 4 ≡ t .nextDoc
+    unfolding numbersOf
+    read-next-doc = read 1 4 (omega (arith, length-numbersOf)) refl
+
+    pub read-next-frame : numberAt bytes 8 ≡ t .nextFrame
+    unfolding numbersOf
+    read-next-frame = read 2 8 (omega (arith, length-numbersOf)) refl
+
+    module _ (j : ℕ) (l : j < length (frames t)) where
+      entry-at : (c : ℕ) → c < 4 → getD (numbersOf t) (3 + (4 * j + c)) 0 ≡ getD (entryOf (t .rows) (frameNo t j)) c 0
+      unfolding numbersOf entryOf
+      entry-at c k =
+          getD-append-add (length (frames t) ∷ t .nextDoc ∷ t .nextFrame ∷ []) (flatMap (entryOf (t .rows)) (frames t) ++ flatMap (m .cells (t .rows)) (frames t)) (4 * j + c) 0
+          ∙ List·getD-append (flatMap (entryOf (t .rows)) (frames t)) _ 0 (4 * j + c) (omega (arith, length-entries))
+          ∙ ap₂ (λ l k. getD (flatMap (entryOf (t .rows)) l) (k + c) 0) (frames-tab t) (sym (entries-before j))
+          ∙ flat-at (entryOf (t .rows)) (frameNo t) (length (frames t)) 0 {j = j} {k = c} l k
+
+      read-entry : (c at : ℕ) → c < 4 → at ≡ 12 + 16 * j + 4 * c → numberAt bytes at ≡ getD (entryOf (t .rows) (frameNo t j)) c 0
+      read-entry c at k e = read (3 + (4 * j + c)) at (omega (arith, length-numbersOf)) (omega arith) ∙ entry-at c k
+
+      pub read-number : numberAt bytes (12 + 16 * j) ≡ frameNo t j
+      unfolding entryOf
+      read-number = read-entry 0 (12 + 16 * j) (omega arith) (omega arith)
+
+      pub read-parent : numberAt bytes (16 + 16 * j) ≡ parentOf (t .rows) (frameNo t j)
+      unfolding entryOf
+      read-parent = read-entry 1 (16 + 16 * j) (omega arith) (omega arith)
+
+      pub read-documents : numberAt bytes (20 + 16 * j) ≡ documents t j
+      unfolding entryOf
+      read-documents = read-entry 2 (20 + 16 * j) (omega arith) (omega arith)
+
+      pub read-shown : numberAt bytes (24 + 16 * j) ≡ shownPlace (t .rows) (frameNo t j)
+      unfolding entryOf
+      read-shown = read-entry 3 (24 + 16 * j) (omega arith) (omega arith)
+
+      pub read-body : (k at : ℕ) → k < cellsOf j → at ≡ 12 + 16 * length (frames t) + 4 * (sum cellsOf j + k) → numberAt bytes at ≡ getD (m .cells (t .rows) (frameNo t j)) k 0
+      unfolding numbersOf
+      read-body k at n e =
+          let all = flatMap (entryOf (t .rows)) (frames t) in
+          let w : sum cellsOf j + cellsOf j ≤ sum cellsOf (length (frames t)) = sum-within cellsOf (length (frames t)) l in
+          read (3 + (4 * length (frames t) + (sum cellsOf j + k))) at (omega (arith, length-numbersOf)) (omega arith)
+          ∙ getD-append-add (length (frames t) ∷ t .nextDoc ∷ t .nextFrame ∷ []) (all ++ flatMap (m .cells (t .rows)) (frames t)) (4 * length (frames t) + (sum cellsOf j + k)) 0
+          ∙ ap (λ n. getD (all ++ flatMap (m .cells (t .rows)) (frames t)) (n + (sum cellsOf j + k)) 0) (sym length-entries)
+          ∙ getD-append-add all (flatMap (m .cells (t .rows)) (frames t)) (sum cellsOf j + k) 0
+          ∙ ap (λ l. getD (flatMap (m .cells (t .rows)) l) (sum cellsOf j + k) 0) (frames-tab t)
+          ∙ flat-at (m .cells (t .rows)) (frameNo t) (length (frames t)) 0 {j = j} {k = k} l n
+
+-- ENTRIES WITH ROW PLACES
 
 module _ (t : Table) where
-  -- The j-th frame, and how many documents it has.
-  abbrev pub frameNo : ℕ → ℕ
-  frameNo j = getD (frames t) j 0
+  pub cells-twice : (j : ℕ) → sum (cellsOf newForm t) j ≡ 2 * sum (documents t) j
+  unfolding sum
+  cells-twice zero = refl
+  cells-twice (suc j) = omega (arith, cells-twice j, length-pairsOf (t .rows) (frameNo t j))
 
-  abbrev pub documents : ℕ → ℕ
-  documents j = length (docsOf (t .rows) (frameNo j))
-
-  frames-tab : frames t ≡ tab (length (frames t)) frameNo
-  frames-tab = tab-is frameNo (frames t) (length (frames t)) 0 refl (λ k l. refl)
-
-  pub length-docs : length (flatMap (docsOf (t .rows)) (frames t)) ≡ sum documents (length (frames t))
-  length-docs = ap (λ l. length (flatMap (docsOf (t .rows)) l)) frames-tab ∙ length-flat (docsOf (t .rows)) frameNo (length (frames t))
-
-  entries-before : (j : ℕ) → before (entry (t .rows)) frameNo j ≡ 4 * j
-  unfolding entry
-  entries-before j = sum-fours _ j (λ k l. refl)
-
-  length-entries : length (flatMap (entry (t .rows)) (frames t)) ≡ 4 * length (frames t)
-  length-entries =
-      ap (λ l. length (flatMap (entry (t .rows)) l)) frames-tab ∙ length-flat (entry (t .rows)) frameNo (length (frames t)) ∙ entries-before (length (frames t))
-
-  length-numbersOf : length (numbersOf t) ≡ 3 + (4 * length (frames t) + sum documents (length (frames t)))
-  unfolding numbersOf
-  length-numbersOf =
-      omega (arith, length-append (flatMap (entry (t .rows)) (frames t)) (flatMap (docsOf (t .rows)) (frames t)), length-entries, length-docs)
-
-  pub length-saved : length (saved t) ≡ 12 + 16 * length (frames t) + 4 * sum documents (length (frames t))
-  length-saved = ap length (saved-is t) ∙ omega (arith, length-numbers (numbersOf t), length-numbersOf)
-
-  -- READING
-
-  read : (i at : ℕ) → i < length (numbersOf t) → at ≡ 4 * i → numberAt (saved t) at ≡ getD (numbersOf t) i 0
-  read i at l e = ap (λ k. numberAt (saved t) k) e ∙ ap (λ l. numberAt l (4 * i)) (saved-is t) ∙ number-read (numbersOf t) i l
-
-  pub read-count : numberAt (saved t) 0 ≡ length (frames t)
-  unfolding numbersOf
-  read-count = read 0 0 (omega (arith, length-numbersOf)) refl
-
-  pub read-next-doc : numberAt (saved t) 4 ≡ t .nextDoc
-  unfolding numbersOf
-  read-next-doc = read 1 4 (omega (arith, length-numbersOf)) refl
-
-  pub read-next-frame : numberAt (saved t) 8 ≡ t .nextFrame
-  unfolding numbersOf
-  read-next-frame = read 2 8 (omega (arith, length-numbersOf)) refl
-
-  module _ (j : ℕ) (l : j < length (frames t)) where
-    entry-at : (c : ℕ) → c < 4 → getD (numbersOf t) (3 + (4 * j + c)) 0 ≡ getD (entry (t .rows) (frameNo j)) c 0
-    unfolding numbersOf entry
-    entry-at c m =
-        getD-append-add (length (frames t) ∷ t .nextDoc ∷ t .nextFrame ∷ []) (flatMap (entry (t .rows)) (frames t) ++ flatMap (docsOf (t .rows)) (frames t)) (4 * j + c) 0
-        ∙ List·getD-append (flatMap (entry (t .rows)) (frames t)) _ 0 (4 * j + c) (omega (arith, length-entries))
-        ∙ ap₂ (λ l k. getD (flatMap (entry (t .rows)) l) (k + c) 0) frames-tab (sym (entries-before j))
-        ∙ flat-at (entry (t .rows)) frameNo (length (frames t)) 0 {j = j} {k = c} l m
-
-    read-entry : (c at : ℕ) → c < 4 → at ≡ 12 + 16 * j + 4 * c → numberAt (saved t) at ≡ getD (entry (t .rows) (frameNo j)) c 0
-    read-entry c at m e = read (3 + (4 * j + c)) at (omega (arith, length-numbersOf)) (omega arith) ∙ entry-at c m
-
-    pub read-number : numberAt (saved t) (12 + 16 * j) ≡ frameNo j
-    unfolding entry
-    read-number = read-entry 0 (12 + 16 * j) (omega arith) (omega arith)
-
-    pub read-parent : numberAt (saved t) (16 + 16 * j) ≡ parentOf (t .rows) (frameNo j)
-    unfolding entry
-    read-parent = read-entry 1 (16 + 16 * j) (omega arith) (omega arith)
-
-    pub read-documents : numberAt (saved t) (20 + 16 * j) ≡ documents j
-    unfolding entry
-    read-documents = read-entry 2 (20 + 16 * j) (omega arith) (omega arith)
-
-    pub read-shown : numberAt (saved t) (24 + 16 * j) ≡ shownPlace (t .rows) (frameNo j)
-    unfolding entry
-    read-shown = read-entry 3 (24 + 16 * j) (omega arith) (omega arith)
-
-    pub read-body : (k at : ℕ) → k < documents j → at ≡ 12 + 16 * length (frames t) + 4 * (sum documents j + k) → numberAt (saved t) at ≡ getD (docsOf (t .rows) (frameNo j)) k 0
-    unfolding numbersOf
-    read-body k at m e =
-        let all = flatMap (entry (t .rows)) (frames t) in
-        let w : sum documents j + documents j ≤ sum documents (length (frames t)) = sum-within documents (length (frames t)) l in
-        read (3 + (4 * length (frames t) + (sum documents j + k))) at (omega (arith, length-numbersOf)) (omega arith)
-        ∙ getD-append-add (length (frames t) ∷ t .nextDoc ∷ t .nextFrame ∷ []) (all ++ flatMap (docsOf (t .rows)) (frames t)) (4 * length (frames t) + (sum documents j + k)) 0
-        ∙ ap (λ n. getD (all ++ flatMap (docsOf (t .rows)) (frames t)) (n + (sum documents j + k)) 0) (sym length-entries)
-        ∙ getD-append-add all (flatMap (docsOf (t .rows)) (frames t)) (sum documents j + k) 0
-        ∙ ap (λ l. getD (flatMap (docsOf (t .rows)) l) (sum documents j + k) 0) frames-tab
-        ∙ flat-at (docsOf (t .rows)) frameNo (length (frames t)) 0 {j = j} {k = k} l m
+  -- Number c of entry k of frame j: the document, the row place.
+  pub read-pair : (j : ℕ) (l : j < length (frames t)) (k c at : ℕ) → k < documents t j → c < 2 → at ≡ 12 + 16 * length (frames t) + 8 * (sum (documents t) j + k) + 4 * c →
+      numberAt (savedWith body t) at ≡ getD (pair (t .rows) (getD (rising (inFrame (t .rows) (frameNo t j)) (length (t .rows))) k 0)) c 0
+  read-pair j l k c at m n e =
+      read-body newForm t j l (2 * k + c) at (omega (arith, length-pairsOf (t .rows) (frameNo t j))) (omega (arith, cells-twice j)) ∙ pairs-at (t .rows) (frameNo t j) k c m n

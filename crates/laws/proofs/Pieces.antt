@@ -92,7 +92,7 @@ module _ {A B : Type 0} (g : A → List B) where
     abbrev pub before : ℕ → ℕ
     before j = sum (λ k. length (g (f k))) j
 
-    flat-suc : (n : ℕ) → flatMap g (tab (suc n) f) ≡ flatMap g (tab n f) ++ g (f n)
+    pub flat-suc : (n : ℕ) → flatMap g (tab (suc n) f) ≡ flatMap g (tab n f) ++ g (f n)
     unfolding tab
     flat-suc n = flat-append (tab n f) (f n ∷ []) ∙ ap (λ l. flatMap g (tab n f) ++ l) (flat-one (f n))
 

@@ -1,6 +1,6 @@
 -- The tests of soundness and what they mean: `Ref b P` says that b holds exactly when P does. Assumes nothing.
 use Prim.Native.Nat.{ℕ, suc, _+_, _-_, _*_, _≤_, _<_}
-use mathlib.Core.Path.{_≡_, refl}
+use mathlib.Core.Path.{_≡_, refl, sym}
 use mathlib.Core.List.{List}
 use mathlib.Core.Logic.{_↔_, _⊎_, inl, inr, ⊎-elim}
 use mathlib.Core.Bool.{Bool, true, false, _&&_, _||_, not, So, false≢true}
@@ -13,7 +13,8 @@ use Rattle.rules.specs.Rows.{Row, Table, none, docAt, frameAt, parentAt, shownA
 use Rattle.rules.specs.Steps.{same, isStep, upcoming}
 use Rattle.rules.specs.Words.{capacity, tableOf}
 use Rattle.rules.specs.Sound.{S1, S2, S3, S4, S5, S6, S7, S8, s1?, s2?, s3?, s4?, s5?, s6?, s7?, s8?, SoundTable, soundTable?, Sound, sound?}
-use Rattle.laws.proofs.Tests.{by-lt, some-in, some-out, all-in, all-out}
+use Rattle.rules.specs.OldSaved.{S2rising, s2rising?, OldTable, oldTable?}
+use Rattle.laws.proofs.Tests.{by-lt, by-order, some-in, some-out, all-in, all-out}
 
 abbrev pub Ref : Bool → Type 0 → Type 0
 Ref b P = So b ↔ P
@@ -50,6 +51,10 @@ pub ref-imp : {a b : Bool} {P Q : Type 0} → Ref a P → Ref b Q → Ref (not a
 ref-imp {a = true} r s = (λ e p. s .0 e, λ f. s .1 (f (r .0 refl)))
 ref-imp {a = false} r s = (λ e p. absurd (false≢true (r .1 p)), λ f. refl)
 
+pub ref-not : {b : Bool} {P : Type 0} → Ref b P → Ref (not b) (P → ⊥)
+ref-not {b = true} r = (λ e p. absurd (false≢true e), λ f. absurd (f (r .0 refl)))
+ref-not {b = false} r = (λ e p. absurd (false≢true (r .1 p)), λ f. refl)
+
 module _ {p : ℕ → Bool} {P : ℕ → Type 0} (r : (i : ℕ) → Ref (p i) (P i)) (n : ℕ) where
   pub ref-all : Ref (allBelow n p) ((i : ℕ) → i < n → P i)
   ref-all = (λ e i l. r i .0 (all-out p n e i l), λ f. all-in p n (λ i l. r i .1 (f i l)))
@@ -71,8 +76,19 @@ module _ (rows : List Row) where
   s1-is room =
       ref-map (λ h. record { some = h .0; fits = h .1 }) (λ s. (s .some, s .fits)) (ref-and (ref-le 1 (length rows)) (ref-le (length rows) room))
 
-  s2-is : (nextDoc : ℕ) → Ref (s2? rows nextDoc) (S2 rows nextDoc)
+  pub s2-is : (nextDoc : ℕ) → Ref (s2? rows nextDoc) (S2 rows nextDoc)
   s2-is nextDoc =
+      ref-map
+      (λ h. record {
+        distinct = λ i j a b e. by-order i j (λ l. absurd (h j b .0 (i, l, e))) (λ q. q) (λ l. absurd (h i a .0 (j, l, sym e)));
+        below = λ i l. h i l .1;
+      })
+      (λ s i l. (λ k. let e = s .distinct (k .0) i (omega (arith, k .1)) l (k .2) in omega (arith, k .1), s .below i l))
+      (ref-all (λ i. ref-and (ref-not (ref-any (λ k. ref-eq (docAt rows k) (docAt rows i)) i)) (ref-lt (docAt rows i) nextDoc)) (length rows))
+
+  -- The old form's rule.
+  s2rising-is : (nextDoc : ℕ) → Ref (s2rising? rows nextDoc) (S2rising rows nextDoc)
+  s2rising-is nextDoc =
       ref-map (λ h. record { rise = λ i l. h .0 i (omega arith); last = h .1 }) (λ s. (λ i l. s .rise i (omega arith), s .last))
       (ref-and (ref-all (λ i. ref-lt (docAt rows i) (docAt rows (suc i))) (length rows - 1)) (ref-lt (docAt rows (length rows - 1)) nextDoc))
 
@@ -120,6 +136,11 @@ sound-table-is room t =
     (λ s. (s .s1, (s .s2, (s .s3, (s .s4, (s .s5, (s .s6, s .s7)))))))
     (ref-and (s1-is (t .rows) room) (ref-and (s2-is (t .rows) (t .nextDoc)) (ref-and (s3-is (t .rows) (t .nextFrame))
     (ref-and (s4-is (t .rows)) (ref-and (s5-is (t .rows)) (ref-and (s6-is (t .rows)) (s7-is (t .rows))))))))
+
+pub old-table-is : (room : ℕ) (t : Table) → So (oldTable? room t) ↔ OldTable room t
+unfolding oldTable?
+old-table-is room t =
+    ref-map (λ h. record { sound = h .0; order = h .1 }) (λ s. (s .sound, s .order)) (ref-and (sound-table-is room t) (s2rising-is (t .rows) (t .nextDoc)))
 
 -- The computed test is S1 to S8.
 pub sound-is : (words : List ℕ) → So (sound? words) ↔ Sound words

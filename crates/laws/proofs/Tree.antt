@@ -10,16 +10,21 @@ use lib.ListN.{length}
 use borrow.Author.Tests.{eqb-true, eq-eqb}
 use Rattle.rules.specs.Below.{count}
 use Rattle.rules.specs.Rows.{Row, Table, none, rowAt, docAt, frameAt, parentAt, place, inFrame, withFlags}
-use Rattle.rules.specs.Sound.{S1, S6, S7, SoundTable}
+use Rattle.rules.specs.Sound.{S1, S2, S6, S7, SoundTable}
 use Rattle.rules.specs.Saved.{parentOf}
-use Rattle.laws.proofs.Tests.{by-order, by-lt, below-cases, count-in, count-mono, least, earliest-is, gather-from}
+use Rattle.rules.specs.OldSaved.{S2rising}
+use Rattle.laws.proofs.Tests.{by-order, by-lt, below-cases, count-in, least, earliest-is, gather-from}
 use Rattle.laws.proofs.Flags.{flags-length, flags-doc, flags-frame, flags-parent}
 use Rattle.laws.proofs.Append.{length-snoc, snoc-old, snoc-new}
 use Rattle.laws.proofs.Kept.{kept, kept-row}
 
+-- No document stands in two rows.
+abbrev pub Once : ℕ → (ℕ → ℕ) → Type 0
+Once n doc = (i j : ℕ) → i < n → j < n → doc i ≡ doc j → i ≡ j
+
 -- n rows with these documents, frames and parents, and the next numbers; the next document number is a 32-bit word.
 pub record Tree (n : ℕ) (doc frame parent : ℕ → ℕ) (nextDoc nextFrame : ℕ) : Type 0 where
-  pub rising : (i j : ℕ) → i < j → j < n → doc i < doc j
+  pub distinct : Once n doc
   pub below : (i : ℕ) → i < n → doc i < nextDoc
   pub word : nextDoc ≤ none
   pub framed : (i : ℕ) → i < n → frame i < nextFrame
@@ -30,17 +35,10 @@ pub record Tree (n : ℕ) (doc frame parent : ℕ → ℕ) (nextDoc nextFrame : 
 abbrev pub TreeOf : List Row → ℕ → ℕ → Type 0
 TreeOf rows = Tree (length rows) (docAt rows) (frameAt rows) (parentAt rows)
 
--- No document stands in two rows.
-abbrev pub Once : ℕ → (ℕ → ℕ) → Type 0
-Once n doc = (i j : ℕ) → i < n → j < n → doc i ≡ doc j → i ≡ j
-
-once : (n : ℕ) (doc : ℕ → ℕ) → ((i j : ℕ) → i < j → j < n → doc i < doc j) → Once n doc
-once n doc rise i j k l e = by-order i j (λ m. absurd (omega (arith, rise i j m l))) (λ q. q) (λ m. absurd (omega (arith, rise j i m k)))
-
 module _ {n : ℕ} {doc frame parent : ℕ → ℕ} {a b : ℕ} (t : Tree n doc frame parent a b) where
   -- So it is in a tree, and none is no document.
   pub distinct : Once n doc
-  distinct = once n doc (t .rising)
+  distinct = t .distinct
 
   pub proper : (i : ℕ) → i < n → doc i ≡ none → ⊥
   proper i l e = let c = t .below i l in let d = t .word in omega arith
@@ -69,25 +67,34 @@ parent-of rows kin i f l e =
 
 -- OF A SOUND TABLE
 
+-- Numbers that rise from place to place rise from any place to any later one.
 pub rising-all : (n : ℕ) (doc : ℕ → ℕ) → ((i : ℕ) → suc i < n → doc i < doc (suc i)) → (j i : ℕ) → i < j → j < n → doc i < doc j
 rising-all n doc h zero i l m = absurd (not-suc-le-zero l)
 rising-all n doc h (suc j) i l m =
     ⊎-elim (λ e. rw e (h j m)) (λ k. omega (arith, rising-all n doc h j i k (omega arith), h j m)) (below-cases l)
 
+-- Documents that rise are distinct, and below the next number with the last.
+pub rising-S2 : (rows : List Row) (nextDoc : ℕ) → S2rising rows nextDoc → S2 rows nextDoc
+rising-S2 rows nextDoc s =
+    let rise = rising-all (length rows) (docAt rows) (s .rise) in
+    record {
+      distinct = λ i j a b e. by-order i j (λ l. absurd (omega (arith, rise j i l b))) (λ q. q) (λ l. absurd (omega (arith, rise i j l a)));
+      below = λ i l.
+          by-lt i (length rows - 1)
+          (λ m. omega (arith, rise (length rows - 1) i m (omega arith), s .last))
+          (λ m. let e : i ≡ length rows - 1 = omega arith in rw e (s .last));
+    }
+
 -- Of words of any size.
 pub once-of : {room : ℕ} {t : Table} → SoundTable room t → Once (length (t .rows)) (docAt (t .rows))
-once-of {t = t} s = once (length (t .rows)) (docAt (t .rows)) (λ i j. rising-all (length (t .rows)) (docAt (t .rows)) (s .s2 .rise) j i)
+once-of s = s .s2 .distinct
 
 pub tree-of : {room : ℕ} {t : Table} → SoundTable room t → t .nextDoc ≤ none → TreeOf (t .rows) (t .nextDoc) (t .nextFrame)
 tree-of {t = t} s w =
     let rows = t .rows in
-    let rise = rising-all (length rows) (docAt rows) (s .s2 .rise) in
     record {
-      rising = λ i j. rise j i;
-      below = λ i l.
-          by-lt i (length rows - 1)
-          (λ m. omega (arith, rise (length rows - 1) i m (omega arith), s .s2 .last))
-          (λ m. let e : i ≡ length rows - 1 = omega arith in rw e (s .s2 .last));
+      distinct = s .s2 .distinct;
+      below = s .s2 .below;
       word = w;
       framed = s .s3 .below;
       placed = s .s4 .placed;
@@ -97,10 +104,9 @@ tree-of {t = t} s w =
 
 pub sound-of : {room : ℕ} {t : Table} → S1 room (t .rows) → TreeOf (t .rows) (t .nextDoc) (t .nextFrame) → S6 (t .rows) → S7 (t .rows) → SoundTable room t
 sound-of {t = t} s1 tree s6 s7 =
-    let some = s1 .some in
     record {
       s1 = s1;
-      s2 = record { rise = λ i l. tree .rising i (suc i) (omega arith) l; last = tree .below (length (t .rows) - 1) (omega arith) };
+      s2 = record { distinct = tree .distinct; below = tree .below };
       s3 = record { below = tree .framed };
       s4 = record { placed = tree .placed };
       s5 = record { kin = tree .kin; root = tree .root };
@@ -134,11 +140,10 @@ module _ (keep : ℕ → Bool) (rows : List Row) {a b : ℕ} (t : TreeOf rows a 
   pub tree-kept : TreeOf (kept keep rows) a b
   tree-kept =
       record {
-        rising = λ i j l m.
-            let u = came i (omega arith) in
+        distinct = λ i j l m e.
+            let u = came i l in
             let v = came j m in
-            let o : u .0 < v .0 = by-lt (u .0) (v .0) (λ x. x) (λ x. absurd (omega (arith, count-mono keep (u .0) x))) in
-            rw (u .4 .d, v .4 .d) (t .rising (u .0) (v .0) o (v .1));
+            sym (u .3) ∙ ap (count keep) (t .distinct (u .0) (v .0) (u .1) (v .1) (sym (u .4 .d) ∙ e ∙ v .4 .d)) ∙ v .3;
         below = λ i l. let u = came i l in rw (u .4 .d) (t .below (u .0) (u .1));
         word = t .word;
         framed = λ i l. let u = came i l in rw (u .4 .f) (t .framed (u .0) (u .1));
@@ -178,13 +183,21 @@ module _ (rows : List Row) (r : Row) {a b c : ℕ} (t : TreeOf rows a b) (more :
   by-place {ℓ} : {C : Type ℓ} (i : ℕ) → i < length all → ((l : i < length rows) → Alike all i rows i → C) → (i ≡ length rows → Alike all i (r ∷ []) 0 → C) → C
   by-place i l f g = ⊎-elim (λ e. g e (new i e)) (λ m. f m (old i m)) (below-cases (subst (λ n. i < n) (length-snoc rows r) l))
 
+  -- The next number is no document yet.
+  used : (i : ℕ) → i < length rows → docAt rows i ≡ r .doc → ⊥
+  used i l e = omega (arith, t .below i l)
+
   pub tree-add : TreeOf all (suc a) c
   tree-add =
       record {
-        rising = λ i j l m.
-            by-place j m
-            (λ x e. let o = old i (omega arith) in rw (o .d, e .d) (t .rising i j l x))
-            (λ x e. let o = old i (omega arith) in rw (o .d, e .d, named) (t .below i (omega arith)));
+        distinct = λ i j l m h.
+            by-place i l
+            (λ x e. by-place j m
+            (λ y f. t .distinct i j x y (sym (e .d) ∙ h ∙ f .d))
+            (λ y f. absurd (used i x (sym (e .d) ∙ h ∙ f .d))))
+            (λ x e. by-place j m
+            (λ y f. absurd (used j y (sym (f .d) ∙ sym h ∙ e .d)))
+            (λ y f. x ∙ sym y));
         below = λ i l. by-place i l (λ x e. rw (e .d) (let y = t .below i x in omega arith)) (λ x e. rw (e .d, named) (omega arith));
         word = left;
         framed = λ i l. by-place i l (λ x e. rw (e .f) (let y = t .framed i x in omega arith)) (λ x e. rw (e .f) framed);

@@ -1,4 +1,4 @@
--- Save, then Load: the table that was saved. Save's bytes have the length that document 01 says. Assumes nothing.
+-- What the saved bytes of a sound table tell, in both forms: of each row, but for its place. Assumes nothing.
 use Prim.Native.Nat.{ℕ, _+_, _*_, _≤_, _<_}
 use mathlib.Core.Bool.{Bool, true, false, not, _&&_, So, and-eq-true-iff}
 use mathlib.Core.List.{List}
@@ -9,23 +9,18 @@ use lib.Dec.{eqb}
 use lib.ListN.{length, getD}
 use borrow.Author.Tests.{eqb-true, eqb-false, eq-eqb, ne-eqb, not-true}
 use Rattle.rules.specs.Below.{count, sum, gather}
-use Rattle.rules.specs.Rows.{Row, Table, rowAt, docAt, frameAt, parentAt, shownAt, isShown, inFrame, isFrame, inRecord, place, flag}
+use Rattle.rules.specs.Rows.{Row, Table, rowAt, docAt, frameAt, parentAt, shownAt, isShown, inFrame, isFrame, flag}
 use Rattle.rules.specs.Steps.{isStep, steps}
 use Rattle.rules.specs.Moves.{frames}
 use Rattle.rules.specs.Sound.{SoundTable}
-use Rattle.rules.specs.Saved.{docsOf, shownPlace, parentOf, saved, numberAt, documentsIn, toldRow, toldRows, loaded}
+use Rattle.rules.specs.Saved.{docsOf, shownPlace, parentOf, savedWith, numberAt, documentsIn, entriesIn, documentAt, toldRow, toldRows}
 use Rattle.laws.proofs.Tests.{test, clash, off, by-order, and-true, some-in, some-out, count-in, count-le, count-same, count-all, count-flat, count-zero, count-order, nth, one-out, one-in, least, latest-is, length-gather, gather-at, gather-from}
 use Rattle.laws.proofs.Frames.{step-in, step-out}
 use Rattle.laws.proofs.Tree.{parent-of}
 use Rattle.laws.proofs.Standing.{count-rest}
 use Rattle.laws.proofs.Pieces.{sum-same, sum-within, sum-least, sum-ones, sum-classes, length-rising}
-use Rattle.laws.proofs.Numbers.{frameNo, documents, length-docs, length-saved, read-count, read-next-doc, read-next-frame, read-number, read-parent, read-documents, read-shown, read-body}
-use Rattle.laws.proofs.Told.{length-told, told-at, told-found, in-order}
-
--- A frame has so many documents.
-pub length-docsOf : (rows : List Row) (f : ℕ) → length (docsOf rows f) ≡ count (inFrame rows f) (length rows)
-unfolding docsOf
-length-docsOf rows f = length-gather (inFrame rows f) (docAt rows) (length rows)
+use Rattle.laws.proofs.Numbers.{Form, oldForm, length-docsOf, frameNo, documents, length-cells, read-count, read-number, read-parent, read-documents, read-shown}
+use Rattle.laws.proofs.Told.{told-at, told-found}
 
 no-documents : (rows : List Row) (f : ℕ) → isFrame rows f ≡ false → length (docsOf rows f) ≡ 0
 unfolding isFrame
@@ -51,21 +46,17 @@ one-first rows f s =
 row-is : (d f p s : ℕ) (r : Row) → d ≡ r .doc → f ≡ r .frame → p ≡ r .parent → s ≡ r .shown → _≡_ {A = Row} (record { doc = d; frame = f; parent = p; shown = s }) r
 row-is d f p s r a b c e = rw (a, b, c, e)
 
-table-is : (l : List Row) (d f : ℕ) (t : Table) → l ≡ t .rows → d ≡ t .nextDoc → f ≡ t .nextFrame → _≡_ {A = Table} (record { rows = l; nextDoc = d; nextFrame = f }) t
+pub table-is : (l : List Row) (d f : ℕ) (t : Table) → l ≡ t .rows → d ≡ t .nextDoc → f ≡ t .nextFrame → _≡_ {A = Table} (record { rows = l; nextDoc = d; nextFrame = f }) t
 table-is l d f t a b c = rw (a, b, c)
 
 module _ {room : ℕ} (t : Table) (sound : SoundTable room t) where
   -- Each row is in one of the frames.
   pub all-documents : sum (documents t) (length (frames t)) ≡ length (t .rows)
   all-documents =
-      sym (length-docs t) ∙ length-rising (docsOf (t .rows)) (isFrame (t .rows)) (t .nextFrame) (no-documents (t .rows))
+      sym (length-cells oldForm t) ∙ length-rising (docsOf (t .rows)) (isFrame (t .rows)) (t .nextFrame) (no-documents (t .rows))
       ∙ sum-same _ _ (t .nextFrame) (λ f l. length-docsOf (t .rows) f ∙ count-same _ _ (length (t .rows)) (λ i m. sym (and-true _)))
       ∙ sum-classes (frameAt (t .rows)) (λ i. true) (length (t .rows)) (t .nextFrame) (sound .s3 .below)
       ∙ count-all (λ i. true) (length (t .rows)) (λ i l. refl)
-
-  -- "Length 12 + 16F + 4n"
-  pub saved-length : length (saved t) ≡ 12 + 16 * length (frames t) + 4 * length (t .rows)
-  saved-length = length-saved t ∙ ap (λ n. 12 + 16 * length (frames t) + 4 * n) all-documents
 
   -- The j-th frame is one.
   pub frame-is : (j : ℕ) → j < length (frames t) → (frameNo t j < t .nextFrame) × So (isFrame (t .rows) (frameNo t j)) × (count (isFrame (t .rows)) (frameNo t j) ≡ j)
@@ -98,69 +89,78 @@ module _ {room : ℕ} (t : Table) (sound : SoundTable room t) where
   frames-few = omega (arith, sum-least (documents t) (length (frames t)) some-documents, all-documents)
 
   -- What the bytes tell: how many documents the first j frames have, and all.
-  pub told-sum : (j : ℕ) → j ≤ length (frames t) → sum (documentsIn (saved t)) j ≡ sum (documents t) j
-  told-sum j l = sum-same (documentsIn (saved t)) (documents t) j (λ k m. read-documents t k (omega arith))
+  pub told-sum : (m : Form) (j : ℕ) → j ≤ length (frames t) → sum (documentsIn (savedWith (m .body) t)) j ≡ sum (documents t) j
+  told-sum m j l = sum-same (documentsIn (savedWith (m .body) t)) (documents t) j (λ k n. read-documents m t k (omega arith))
 
-  pub told-total : sum (documentsIn (saved t)) (numberAt (saved t) 0) ≡ length (t .rows)
-  told-total = ap (sum (documentsIn (saved t))) (read-count t) ∙ told-sum (length (frames t)) (omega arith) ∙ all-documents
+  pub told-total : (m : Form) → entriesIn (savedWith (m .body) t) ≡ length (t .rows)
+  told-total m = ap (sum (documentsIn (savedWith (m .body) t))) (read-count m t) ∙ told-sum m (length (frames t)) (omega arith) ∙ all-documents
 
+-- Which frame row i is in, which of its documents it has, and which entry of all that is.
+module _ (t : Table) (i : ℕ) where
+  abbrev pub its : ℕ
+  its = frameAt (t .rows) i
+
+  abbrev pub frame-place : ℕ
+  frame-place = count (isFrame (t .rows)) its
+
+  abbrev pub doc-place : ℕ
+  doc-place = count (inFrame (t .rows) its) i
+
+  abbrev pub entry-of : ℕ
+  entry-of = sum (documents t) frame-place + doc-place
+
+module _ {room : ℕ} (t : Table) (sound : SoundTable room t) where
   -- ROW i
   module _ (i : ℕ) (l : i < length (t .rows)) where
-    abbrev its : ℕ
-    its = frameAt (t .rows) i
+    in-its : So (inFrame (t .rows) (its t i) i)
+    in-its = eq-eqb (its t i) (its t i) refl
 
-    abbrev frame-place : ℕ
-    frame-place = count (isFrame (t .rows)) its
-
-    abbrev doc-place : ℕ
-    doc-place = count (inFrame (t .rows) its) i
-
-    in-its : So (inFrame (t .rows) its i)
-    in-its = eq-eqb its its refl
-
-    is-frame : So (isFrame (t .rows) its)
+    is-frame : So (isFrame (t .rows) (its t i))
     unfolding isFrame
-    is-frame = some-in (inFrame (t .rows) its) (length (t .rows)) l in-its
+    is-frame = some-in (inFrame (t .rows) (its t i)) (length (t .rows)) l in-its
 
-    frame-below : frame-place < length (frames t)
+    pub frame-below : frame-place t i < length (frames t)
     frame-below = omega (arith, length-gather (isFrame (t .rows)) (λ k. k) (t .nextFrame), count-in (isFrame (t .rows)) (t .nextFrame) (sound .s3 .below i l) is-frame)
 
-    frame-at : frameNo t frame-place ≡ its
+    pub frame-at : frameNo t (frame-place t i) ≡ its t i
     frame-at = gather-at (isFrame (t .rows)) (λ k. k) (t .nextFrame) 0 (sound .s3 .below i l) is-frame
 
-    doc-below : doc-place < documents t frame-place
+    pub doc-below : doc-place t i < documents t (frame-place t i)
     doc-below =
-        omega (arith, ap (λ f. length (docsOf (t .rows) f)) frame-at, length-docsOf (t .rows) its, count-in (inFrame (t .rows) its) (length (t .rows)) l in-its)
+        omega (arith, ap (λ f. length (docsOf (t .rows) f)) frame-at, length-docsOf (t .rows) (its t i), count-in (inFrame (t .rows) (its t i)) (length (t .rows)) l in-its)
 
-    doc-at : getD (docsOf (t .rows) its) doc-place 0 ≡ docAt (t .rows) i
-    unfolding docsOf
-    doc-at = gather-at (inFrame (t .rows) its) (docAt (t .rows)) (length (t .rows)) 0 l in-its
+    -- What is gathered of the rows of its frame.
+    pub gathered-at : (f : ℕ → ℕ) → getD (gather (inFrame (t .rows) (frameNo t (frame-place t i))) f (length (t .rows))) (doc-place t i) 0 ≡ f i
+    gathered-at f = ap (λ g. getD (gather (inFrame (t .rows) g) f (length (t .rows))) (doc-place t i) 0) frame-at ∙ gather-at (inFrame (t .rows) (its t i)) f (length (t .rows)) 0 l in-its
 
     -- "Rows of one frame have one parent."
-    parent-is : parentOf (t .rows) its ≡ parentAt (t .rows) i
-    parent-is = parent-of (t .rows) (sound .s5 .kin) i its l refl
+    parent-is : parentOf (t .rows) (its t i) ≡ parentAt (t .rows) i
+    parent-is = parent-of (t .rows) (sound .s5 .kin) i (its t i) l refl
 
     -- "each frame has exactly one shown row"
     abbrev shows : ℕ → Bool
-    shows k = inFrame (t .rows) its k && isShown (t .rows) k
+    shows k = inFrame (t .rows) (its t i) k && isShown (t .rows) k
 
-    shown-place : (k : ℕ) → k < length (t .rows) → So (shows k) → shownPlace (t .rows) its ≡ count (inFrame (t .rows) its) k
+    pub shown-row : (k : ℕ) × (k < length (t .rows)) × So (shows k)
+    shown-row = one-out shows (length (t .rows)) (sound .s6 .one i l) .0
+
+    pub shown-place : (k : ℕ) → k < length (t .rows) → So (shows k) → shownPlace (t .rows) (its t i) ≡ count (inFrame (t .rows) (its t i)) k
     unfolding shownPlace
     shown-place k m s =
         let one = one-out shows (length (t .rows)) (sound .s6 .one i l) .1 in
-        ap (count (inFrame (t .rows) its)) (latest-is shows (length (t .rows)) m s (λ a b c d. let e = one a k c m d s in omega arith))
+        ap (count (inFrame (t .rows) (its t i))) (latest-is shows (length (t .rows)) m s (λ a b c d. let e = one a k c m d s in omega arith))
 
-    shown-is : flag (eqb doc-place (shownPlace (t .rows) its)) ≡ shownAt (t .rows) i
+    shown-is : flag (eqb (doc-place t i) (shownPlace (t .rows) (its t i))) ≡ shownAt (t .rows) i
     shown-is =
         test (isShown (t .rows) i)
         (λ s. ap flag (eq-eqb _ _ (sym (shown-place i l (simp and-eq-true-iff (in-its, s))))) ∙ sym (eqb-true _ _ s))
         (λ f.
-        let k = one-out shows (length (t .rows)) (sound .s6 .one i l) .0 in
+        let k = shown-row in
         let v = simp and-eq-true-iff at (k .2) in
-        let other : doc-place ≢ shownPlace (t .rows) its = λ e.
-        let c : doc-place ≡ count (inFrame (t .rows) its) (k .0) = e ∙ shown-place (k .0) (k .1) (k .2) in
-        let p = count-order (inFrame (t .rows) its) i (k .0) (v .0) (omega arith) in
-        let q = count-order (inFrame (t .rows) its) (k .0) i in-its (omega arith) in
+        let other : doc-place t i ≢ shownPlace (t .rows) (its t i) = λ e.
+        let c : doc-place t i ≡ count (inFrame (t .rows) (its t i)) (k .0) = e ∙ shown-place (k .0) (k .1) (k .2) in
+        let p = count-order (inFrame (t .rows) (its t i)) i (k .0) (v .0) (omega arith) in
+        let q = count-order (inFrame (t .rows) (its t i)) (k .0) i in-its (omega arith) in
         let r : k .0 ≡ i = omega arith in
         clash (ap (isShown (t .rows)) (sym r) ∙ v .1) f in
         let b : shownAt (t .rows) i ≤ 1 = sound .s6 .bit i l in
@@ -168,52 +168,50 @@ module _ {room : ℕ} (t : Table) (sound : SoundTable room t) where
         let y : 0 ≡ shownAt (t .rows) i = omega arith in
         ap flag (ne-eqb _ _ other) ∙ y)
 
-    told-row : toldRow (saved t) frame-place doc-place ≡ rowAt (t .rows) i
+  pub frames-some : 1 ≤ length (frames t)
+  frames-some = omega (arith, frame-below 0 (sound .s1 .some))
+
+  -- Entry k of frame j is that of a row.
+  pub row-of : (j k : ℕ) → j < length (frames t) → k < documents t j →
+      (i : ℕ) × (i < length (t .rows)) × (frameAt (t .rows) i ≡ frameNo t j) × (frame-place t i ≡ j) × (doc-place t i ≡ k)
+  row-of j k l m =
+      let i = nth (inFrame (t .rows) (frameNo t j)) (length (t .rows)) k (omega (arith, length-docsOf (t .rows) (frameNo t j))) in
+      let e = eqb-true _ _ (i .2) in
+      (i .0, i .1, e, ap (count (isFrame (t .rows))) e ∙ frame-is t sound j l .2, ap (λ f. count (inFrame (t .rows) f) (i .0)) e ∙ i .3)
+
+  -- A form that tells a row's document where its entry is tells the row there.
+  module _ (m : Form) (width : ℕ) (docs : (i : ℕ) → i < length (t .rows) → documentAt width (savedWith (m .body) t) (entry-of t i) ≡ docAt (t .rows) i) where
+    abbrev bytes : List ℕ
+    bytes = savedWith (m .body) t
+
+    -- The entries of the frames before a row's.
+    before-is : (i : ℕ) → i < length (t .rows) → sum (documentsIn bytes) (frame-place t i) ≡ sum (documents t) (frame-place t i)
+    before-is i l = told-sum t sound m (frame-place t i) (omega (arith, frame-below i l))
+
+    told-row : (i : ℕ) → i < length (t .rows) → toldRow width bytes (frame-place t i) (doc-place t i) ≡ rowAt (t .rows) i
     unfolding toldRow
-    told-row =
+    told-row i l =
+        let b = frame-below i l in
         row-is _ _ _ _ (rowAt (t .rows) i)
-        (read-body t frame-place frame-below doc-place _ doc-below (omega (arith, read-count t, told-sum frame-place (omega (arith, frame-below))))
-        ∙ ap (λ f. getD (docsOf (t .rows) f) doc-place 0) frame-at ∙ doc-at)
-        (read-number t frame-place frame-below ∙ frame-at)
-        (read-parent t frame-place frame-below ∙ ap (parentOf (t .rows)) frame-at ∙ parent-is)
-        (ap (λ n. flag (eqb doc-place n)) (read-shown t frame-place frame-below ∙ ap (shownPlace (t .rows)) frame-at) ∙ shown-is)
+        (ap (λ n. documentAt width bytes (n + doc-place t i)) (before-is i l) ∙ docs i l)
+        (read-number m t (frame-place t i) b ∙ frame-at i l)
+        (read-parent m t (frame-place t i) b ∙ ap (parentOf (t .rows)) (frame-at i l) ∙ parent-is i l)
+        (ap (λ n. flag (eqb (doc-place t i) n)) (read-shown m t (frame-place t i) b ∙ ap (shownPlace (t .rows)) (frame-at i l)) ∙ shown-is i l)
 
     -- It is told.
-    pub told-to : (p : ℕ) × (p < length (toldRows (saved t))) × (rowAt (toldRows (saved t)) p ≡ rowAt (t .rows) i)
-    told-to =
-        let a : frame-place < numberAt (saved t) 0 = omega (arith, read-count t, frame-below) in
-        let b : doc-place < documentsIn (saved t) frame-place = omega (arith, read-documents t frame-place frame-below, doc-below) in (
-          sum (documentsIn (saved t)) frame-place + doc-place,
-          omega (arith, length-told (saved t), sum-within (documentsIn (saved t)) (numberAt (saved t) 0) a),
-          told-at (saved t) frame-place doc-place a b ∙ told-row,
+    pub told-to : (i : ℕ) → i < length (t .rows) → (entry-of t i < entriesIn bytes) × (rowAt (toldRows width bytes) (entry-of t i) ≡ rowAt (t .rows) i)
+    told-to i l =
+        let a : frame-place t i < numberAt bytes 0 = omega (arith, read-count m t, frame-below i l) in
+        let b : doc-place t i < documentsIn bytes (frame-place t i) = omega (arith, read-documents m t (frame-place t i) (frame-below i l), doc-below i l) in
+        let e = before-is i l in (
+          omega (arith, sum-within (documentsIn bytes) (numberAt bytes 0) a),
+          ap (λ n. rowAt (toldRows width bytes) (n + doc-place t i)) (sym e) ∙ told-at width bytes (frame-place t i) (doc-place t i) a b ∙ told-row i l,
         )
 
--- LOAD OF SAVE
-
-module _ {room : ℕ} (t : Table) (sound : SoundTable room t) where
-  pub frames-some : 1 ≤ length (frames t)
-  frames-some = omega (arith, frame-below t sound 0 (sound .s1 .some))
-
-  told-as : (i j k f : ℕ) → i < length (t .rows) → frameAt (t .rows) i ≡ f → count (isFrame (t .rows)) f ≡ j → count (inFrame (t .rows) f) i ≡ k →
-      toldRow (saved t) j k ≡ rowAt (t .rows) i
-  told-as i j k f l e a b = ap₂ (toldRow (saved t)) (sym a ∙ ap (count (isFrame (t .rows))) (sym e)) (sym b ∙ ap (λ f. count (inFrame (t .rows) f) i) (sym e)) ∙ told-row t sound i l
-
   -- What is told is a row.
-  told-from : (p : ℕ) → p < length (toldRows (saved t)) → (i : ℕ) × (i < length (t .rows)) × (rowAt (toldRows (saved t)) p ≡ rowAt (t .rows) i)
-  told-from p l =
-      let r = told-found (saved t) p l in
-      let a : r .0 < length (frames t) = omega (arith, read-count t) in
-      let i = nth (inFrame (t .rows) (frameNo t (r .0))) (length (t .rows)) (r .1) (omega (arith, read-documents t (r .0) a, length-docsOf (t .rows) (frameNo t (r .0)))) in (
-        i .0,
-        i .1,
-        ap (rowAt (toldRows (saved t))) (r .4) ∙ told-at (saved t) (r .0) (r .1) (r .2) (r .3)
-            ∙ told-as (i .0) (r .0) (r .1) (frameNo t (r .0)) (i .1) (eqb-true _ _ (i .2)) (frame-is t sound (r .0) a .2) (i .3),
-      )
-
-  pub loaded-saved : loaded (saved t) ≡ t
-  unfolding loaded
-  loaded-saved =
-      table-is _ _ _ t
-      (ap (λ n. gather (inRecord (toldRows (saved t))) (λ d. rowAt (toldRows (saved t)) (place (toldRows (saved t)) d)) n) (read-next-doc t)
-      ∙ in-order (t .rows) (toldRows (saved t)) (t .nextDoc) (sound .s2) (sound .s1 .some) told-from (told-to t sound))
-      (read-next-doc t) (read-next-frame t)
+  pub told-from : (m : Form) (e : ℕ) → e < entriesIn (savedWith (m .body) t) → (i : ℕ) × (i < length (t .rows)) × (entry-of t i ≡ e)
+  told-from m e l =
+      let r = told-found (savedWith (m .body) t) e l in
+      let a : r .0 < length (frames t) = omega (arith, read-count m t) in
+      let q = row-of (r .0) (r .1) a (omega (arith, read-documents m t (r .0) a)) in
+      (q .0, q .1, ap₂ (λ j k. sum (documents t) j + k) (q .3) (q .4) ∙ ap (λ n. n + r .1) (sym (told-sum t sound m (r .0) (omega arith))) ∙ sym (r .4))

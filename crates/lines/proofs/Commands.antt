@@ -9,7 +9,7 @@ use lib.Seq.{take-all}
 use borrow.Author.Tests.{lt-ltb, le-ltb}
 use Rattle.laws.proofs.Tests.{by-lt, clash}
 use Rattle.lines.specs.Decimal.{numeral}
-use Rattle.lines.specs.Lines.{Command, openWord, navWord, goWord, dropWord, starts?, minus?, opening, navigating, dropping, forth, back, going, otherWord, worded, parse}
+use Rattle.lines.specs.Lines.{Command, openWord, navWord, goWord, dropWord, replaceWord, starts?, minus?, opening, navigating, dropping, replacement, forth, back, going, otherWord, worded, parse}
 use Rattle.lines.specs.declared.Number.{Number}
 use Rattle.lines.proofs.Numerals.{minus-empty}
 
@@ -54,9 +54,14 @@ module _ (line : List ℕ) (a : Bool) (e : a ≡ starts? dropWord line) where
   unfolding otherWord
   other-drop n r t f h = rw (← e, t, ← f) h
 
-  pub other-bad : a ≡ false → Command.bad ≡ otherWord line
-  unfolding otherWord
-  other-bad t = rw (← e, t) refl
+  module _ (x : a ≡ false) (b : Bool) (g : b ≡ starts? replaceWord line) where
+    pub other-replace : (n : Number) (r : Command) → b ≡ true → n ≡ numeral 4294967295 (drop 8 line) → r ≡ replacement n → r ≡ otherWord line
+    unfolding otherWord
+    other-replace n r t f h = rw (← e, x, ← g, t, ← f) h
+
+    pub other-bad : b ≡ false → Command.bad ≡ otherWord line
+    unfolding otherWord
+    other-bad t = rw (← e, x, ← g, t) refl
 
 module _ (line : List ℕ) where
   pub parse-long : 64 < length line → Command.bad ≡ parse line

@@ -115,3 +115,16 @@ drop-twelve = refl
 pub drop-below : parse (100 ∷ 114 ∷ 111 ∷ 112 ∷ 32 ∷ 45 ∷ 49 ∷ []) ≡ Command.bad
 unfolding parse worded otherWord going starts? numeral upTo decimal? spelled allBelow
 drop-below = refl
+
+-- `replace 12`, `replace`, and `replaced 1`
+pub replace-twelve : parse (114 ∷ 101 ∷ 112 ∷ 108 ∷ 97 ∷ 99 ∷ 101 ∷ 32 ∷ 49 ∷ 50 ∷ []) ≡ Command.replaces 12
+unfolding parse worded otherWord going starts? numeral upTo decimal? spelled allBelow
+replace-twelve = refl
+
+pub replace-nothing : parse (114 ∷ 101 ∷ 112 ∷ 108 ∷ 97 ∷ 99 ∷ 101 ∷ []) ≡ Command.bad
+unfolding parse worded otherWord going starts? numeral upTo decimal? spelled allBelow
+replace-nothing = refl
+
+pub replaced-one : parse (114 ∷ 101 ∷ 112 ∷ 108 ∷ 97 ∷ 99 ∷ 101 ∷ 100 ∷ 32 ∷ 49 ∷ []) ≡ Command.bad
+unfolding parse worded otherWord going starts? numeral upTo decimal? spelled allBelow
+replaced-one = refl

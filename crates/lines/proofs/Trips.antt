@@ -11,7 +11,7 @@ use lib.Seq.{ext-getD, getD-take}
 use borrow.Author.Tests.{le-ltb, le-leb, leb-true, eqb-true, eq-eqb, ne-eqb}
 use Rattle.laws.proofs.Tests.{test, all-in, all-out}
 use Rattle.lines.specs.Decimal.{decimal, signed, numeral}
-use Rattle.lines.specs.Lines.{Command, InRange, openWord, navWord, goWord, dropWord, starts?, minus?, numbered, back, going, otherWord, worded, parse, printed}
+use Rattle.lines.specs.Lines.{Command, InRange, openWord, navWord, goWord, dropWord, replaceWord, starts?, minus?, numbered, back, going, otherWord, worded, parse, printed}
 use Rattle.lines.specs.declared.Number.{Number}
 use Rattle.lines.specs.declared.Number.the-variants.{Is, Nothing}
 use Rattle.lines.proofs.Firsts.{starts-not}
@@ -82,6 +82,13 @@ parse-printed (Command.drops f) l =
     let n = sym (starts-not navWord (dropWord ++ decimal f) 0 (omega arith) (λ e. omega arith)) in
     let g = sym (starts-not goWord (dropWord ++ decimal f) 0 (omega arith) (λ e. omega arith)) in
     short (dropWord ++ decimal f) _ (omega arith) (rw (o, n, g, starts-word dropWord (decimal f), numeral-decimal 4294967295 f l) refl)
+parse-printed (Command.replaces d) l =
+    let t = ten d l in
+    let o = sym (starts-not openWord (replaceWord ++ decimal d) 0 (omega arith) (λ e. omega arith)) in
+    let n = sym (starts-not navWord (replaceWord ++ decimal d) 0 (omega arith) (λ e. omega arith)) in
+    let g = sym (starts-not goWord (replaceWord ++ decimal d) 0 (omega arith) (λ e. omega arith)) in
+    let f = sym (starts-not dropWord (replaceWord ++ decimal d) 0 (omega arith) (λ e. omega arith)) in
+    short (replaceWord ++ decimal d) _ (omega arith) (rw (o, n, g, f, starts-word replaceWord (decimal d), numeral-decimal 4294967295 d l) refl)
 parse-printed Command.bad l = short [] _ (omega arith) worded-empty
 
 -- ONLY THESE LINES ARE READ
@@ -115,6 +122,10 @@ drops-says : (n : ℕ) → printed (Command.drops n) ≡ dropWord ++ decimal n
 unfolding printed
 drops-says n = refl
 
+replaces-says : (n : ℕ) → printed (Command.replaces n) ≡ replaceWord ++ decimal n
+unfolding printed
+replaces-says n = refl
+
 goes-says : (n : ℕ) → printed (Command.goes (pos n)) ≡ goWord ++ decimal n
 unfolding printed
 goes-says n = refl
@@ -143,7 +154,10 @@ unfolding otherWord
 other-only line g =
     test (starts? dropWord line)
     (λ d. rw d (numbered-only Command.drops 4294967295 dropWord (drop 5 line) drops-says (λ n l. l) line (word-starts dropWord line d) _ refl (rw d at g)))
-    (λ d. absurd ((rw d at g) refl))
+    (λ d.
+    test (starts? replaceWord line)
+    (λ r. rw (d, r) (numbered-only Command.replaces 4294967295 replaceWord (drop 8 line) replaces-says (λ n l. l) line (word-starts replaceWord line r) _ refl (rw (d, r) at g)))
+    (λ r. absurd ((rw (d, r) at g) refl)))
 
 worded-only : (line : List ℕ) → Good (worded line) → Line line (worded line)
 unfolding worded

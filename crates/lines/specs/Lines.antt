@@ -1,4 +1,5 @@
--- One line of a script, without its newline: "Lines `open P`, `nav D`, `go N` [..] at most 64 bytes"; "The script gains `drop F`" (document 02, L1).
+-- One line of a script, without its newline: "Lines `open P`, `nav D`, `go N` [..] at most 64 bytes"; "The script gains `drop F`" (document 02, L1)
+-- and "`replace D`" (L7).
 use Prim.Native.Nat.{ℕ, zero, suc, _≤_, _<_}
 use mathlib.Core.Bool.{Bool, _&&_, cond}
 use mathlib.Core.List.{List, [], _∷_, _++_}
@@ -18,6 +19,7 @@ pub data Command : Type 0 where
   navs : (d : ℕ) → Command
   goes : (δ : ℤ) → Command
   drops : (f : ℕ) → Command
+  replaces : (d : ℕ) → Command
   bad : Command
 
 -- `open `
@@ -35,6 +37,10 @@ goWord = 103 ∷ 111 ∷ 32 ∷ []
 -- `drop `
 abbrev pub dropWord : List ℕ
 dropWord = 100 ∷ 114 ∷ 111 ∷ 112 ∷ 32 ∷ []
+
+-- `replace `
+abbrev pub replaceWord : List ℕ
+replaceWord = 114 ∷ 101 ∷ 112 ∷ 108 ∷ 97 ∷ 99 ∷ 101 ∷ 32 ∷ []
 
 -- A line starts with a word.
 unfoldable pub starts? : List ℕ → List ℕ → Bool
@@ -54,7 +60,7 @@ abbrev pub backBy : ℕ → Command
 backBy zero = Command.bad
 backBy (suc n) = Command.goes (negsuc n)
 
--- What a number asks after `open `, `nav `, `drop `, `go ` and `go -`.
+-- What a number asks after `open `, `nav `, `drop `, `replace `, `go ` and `go -`.
 abbrev pub opening : Number → Command
 opening n = numbered Command.opens n
 
@@ -63,6 +69,9 @@ navigating n = numbered Command.navs n
 
 abbrev pub dropping : Number → Command
 dropping n = numbered Command.drops n
+
+abbrev pub replacement : Number → Command
+replacement n = numbered Command.replaces n
 
 abbrev pub forth : Number → Command
 forth n = numbered (λ k. Command.goes (pos k)) n
@@ -76,7 +85,9 @@ going text = cond (minus? text) (back (numeral 2147483648 (drop 1 text))) (forth
 
 -- What a line asks by a word of document 02. "Any other line prints `bad`."
 unfoldable pub otherWord : List ℕ → Command
-otherWord line = cond (starts? dropWord line) (dropping (numeral 4294967295 (drop 5 line))) Command.bad
+otherWord line =
+    cond (starts? dropWord line) (dropping (numeral 4294967295 (drop 5 line)))
+    (cond (starts? replaceWord line) (replacement (numeral 4294967295 (drop 8 line))) Command.bad)
 
 -- What a line asks by its word: "P and D fit 32 bits unsigned".
 unfoldable pub worded : List ℕ → Command
@@ -95,6 +106,7 @@ printed (Command.opens d) = openWord ++ decimal d
 printed (Command.navs d) = navWord ++ decimal d
 printed (Command.goes δ) = goWord ++ signed δ
 printed (Command.drops f) = dropWord ++ decimal f
+printed (Command.replaces d) = replaceWord ++ decimal d
 printed Command.bad = []
 
 -- The numbers of a command fit: "P and D fit 32 bits unsigned, N fits 32 bits signed".
@@ -104,6 +116,7 @@ InRange (Command.navs d) = d ≤ 4294967295
 InRange (Command.goes (pos n)) = n ≤ 2147483647
 InRange (Command.goes (negsuc n)) = n < 2147483648
 InRange (Command.drops f) = f ≤ 4294967295
+InRange (Command.replaces d) = d ≤ 4294967295
 InRange Command.bad = Unit {0}
 
 -- What the code read, in these words.
@@ -112,4 +125,5 @@ commandIs (Reads.Open d) = Command.opens (d .0)
 commandIs (Reads.Nav d) = Command.navs (d .0)
 commandIs (Reads.Go δ) = Command.goes δ
 commandIs (Reads.Drop f) = Command.drops (f .0)
+commandIs (Reads.Replace d) = Command.replaces (d .0)
 commandIs Reads.Bad = Command.bad

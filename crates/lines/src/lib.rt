@@ -9,7 +9,7 @@ ghost use mathlib.Core.Path.{_≡_};
 ghost use Prim.Native.Nat.{_+_, _-_, _<_, _≤_};
 ghost use lib.ListN.{length};
 ghost use Rattle.lines.specs.Decimal.{decimal, digit?, leadingZero?, digits?, decimal?, spelled as spelledBy, upTo, numeral as numeralOf};
-ghost use Rattle.lines.specs.Lines.{starts? as startsWith, minus?, opening as openingOf, navigating as navigatingOf, dropping as droppingOf, forth as forthOf, back as backOf, going as goingOf, otherWord, worded as wordedOf, parse as parseOf, commandIs};
+ghost use Rattle.lines.specs.Lines.{starts? as startsWith, minus?, opening as openingOf, navigating as navigatingOf, dropping as droppingOf, replacement as replacementOf, forth as forthOf, back as backOf, going as goingOf, otherWord, worded as wordedOf, parse as parseOf, commandIs};
 ghost use Rattle.laws.specs.Writes.{Wrote};
 ghost use Rattle.base.specs.Numbers.{numberOf, carriedBy};
 ghost use Rattle.lines.specs.Reply.{replyIs, statusText, deniedText, answerText};
@@ -21,6 +21,7 @@ pub enum Command {
     Nav(DocNo),
     Go(i32),
     Drop(FrameNo),
+    Replace(DocNo),
     Bad,
 }
 
@@ -166,6 +167,16 @@ fn dropping(n: Number) -> Command
     }
 }
 
+// The command to replace a document in its own row.
+fn replacement(n: Number) -> Command
+    ensures { λ r. ⌜ commandIs r ≡ replacementOf n ⌝ }
+{
+    match n {
+        Number::Is(d) => Command::Replace(DocNo(d)),
+        Number::Nothing => Command::Bad,
+    }
+}
+
 // The command to go forward.
 fn forth(n: Number) -> Command
     requires { ⌜ Most 2147483647 n ⌝ }
@@ -222,6 +233,9 @@ fn other_word(line: &[u8]) -> Command
 {
     if starts(line, b"drop ") {
         return dropping(numeral(&line[5..], 4294967295));
+    }
+    if starts(line, b"replace ") {
+        return replacement(numeral(&line[8..], 4294967295));
     }
     Command::Bad
 }

@@ -1,12 +1,3 @@
-pub mod Spots
-pub mod Ordered
-pub mod Cells
-pub mod Settled
-pub mod Resaved
-pub mod Sizing
-pub mod Merging
-pub mod Written
-pub mod Checking
+pub mod Laying
 pub mod Placing
 pub mod Judging
-pub mod Filling

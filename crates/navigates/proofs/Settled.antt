@@ -1,22 +1,18 @@
 -- The words that Navigate leaves are those of the navigated table. Assumes nothing.
-use Prim.Native.Nat.{ℕ, zero, suc, _+_, _*_, _≤_, _<_}
+use Prim.Native.Nat.{ℕ, _+_, _*_, _≤_, _<_}
 use mathlib.Core.Bool.{Bool, true, false, not, _&&_, So}
-use mathlib.Core.List.{List, [], _∷_, _++_, flatMap}
-use mathlib.Core.Logic.{_≢_}
-use mathlib.Core.Path.{_≡_, refl, sym, ap, ap₂, subst, _∙_}
-use native.Mathlib.Nat.{not-suc-le-zero}
+use mathlib.Core.List.{List, [], _∷_, _++_}
+use mathlib.Core.Path.{_≡_, refl, sym, ap, ap₂, subst, subst₂, _∙_}
 use native.Mathlib.Numerals.{add-one}
 use native.Mathlib.Omega.{arith}
-use lib.Dec.{eqb}
-use lib.ListN.{length, set, length-set}
-use lib.Seq.{ext-getD, getD-set-same, getD-set-other}
-use borrow.Author.Tests.{eqb-true, eqb-false, eq-eqb, ne-eqb}
+use lib.ListN.{length, set}
+use borrow.Author.Tests.{eq-eqb, ne-eqb}
 use Rattle.rules.specs.Below.{someBelow}
 use Rattle.rules.specs.Rows.{Row, none, noRow, rowAt, docAt, frameAt, parentAt, shownAt, isShown, isDoc, place, flag}
 use Rattle.rules.specs.Steps.{upcoming}
 use Rattle.rules.specs.Moves.{without, cleared, hide, navigated}
-use Rattle.rules.specs.Words.{put, capacity, tableOf, rowsOf, rowWords, written}
-use Rattle.laws.proofs.Tests.{test, some-in, gather-from}
+use Rattle.rules.specs.Words.{put, capacity, tableOf, rowsOf, written}
+use Rattle.laws.proofs.Tests.{some-in, gather-from}
 use Rattle.laws.proofs.Flags.{flag-back, flags-length, flags-row}
 use Rattle.laws.proofs.Tree.{distinct, place-is, Alike, alike}
 use Rattle.laws.proofs.Removal.{SoundRows, sound-rows, stays, cleared-removed}
@@ -24,7 +20,7 @@ use Rattle.laws.proofs.Navigate.{stayed}
 use Rattle.laws.proofs.Accepted.{Navigates}
 use Rattle.reads.specs.Within.{Before, Within}
 use Rattle.packs.specs.Packing.{Over}
-use Rattle.packs.proofs.Over.{over-length, over-capacity, over-fits, over-row, over-more, over-word}
+use Rattle.packs.proofs.Over.{over-length, over-capacity, over-fits, over-row, over-more, set-only, over-set}
 use Rattle.packs.proofs.Stays.{without-fewer}
 use Rattle.packs.proofs.Ended.{ended-is}
 use Rattle.navigates.specs.Packing.{settled}
@@ -35,33 +31,18 @@ use Rattle.navigates.specs.Packing.{settled}
 abbrev flagged : ℕ → Row → Row
 flagged v r = record { doc = r .doc; frame = r .frame; parent = r .parent; shown = v }
 
-set-flag : (rows : List Row) (q v : ℕ) → q < length rows → set (flatMap rowWords rows) (4 * q + 3) v ≡ flatMap rowWords (set rows q (flagged v (rowAt rows q)))
-unfolding flatMap
-set-flag [] q v l = absurd (not-suc-le-zero l)
-set-flag (r ∷ rows) zero v l = refl
-set-flag (r ∷ rows) (suc q) v l =
-    let e : 4 * suc q + 3 ≡ suc (suc (suc (suc (4 * q + 3)))) = omega arith in
-    rw e (ap (λ t. rowWords r ++ t) (set-flag rows q v (omega arith)))
-
 -- To hide a document is to write its one row's flag.
 hide-is : (rows : List Row) (q d : ℕ) → q < length rows → docAt rows q ≡ d → ((i : ℕ) → i < length rows → docAt rows i ≡ d → i ≡ q) →
     ((i : ℕ) → i < length rows → shownAt rows i ≤ 1) → set rows q (flagged 0 (rowAt rows q)) ≡ hide d rows
 unfolding hide
 hide-is rows q d l e only bit =
     let f : ℕ → Bool = λ i. not (isDoc rows d i) && isShown rows i in
-    ext-getD noRow _ _ (length-set rows q _ ∙ sym (flags-length f rows)) (λ i m.
-    let b : i < length rows = subst (λ n. i < n) (length-set rows q _) m in
-    test (eqb i q)
-    (λ t.
-    let h : i ≡ q = eqb-true i q t in
-    let g : isDoc rows d i ≡ true = eq-eqb _ _ (ap (docAt rows) h ∙ e) in
-    ap (λ x. rowAt (set rows q (flagged 0 (rowAt rows q))) x) h ∙ getD-set-same rows q _ noRow l ∙ ap (λ x. flagged 0 (rowAt rows x)) (sym h)
-    ∙ ap (λ x. flagged (flag (not x && isShown rows i)) (rowAt rows i)) (sym g) ∙ sym (flags-row f rows i b))
-    (λ o.
-    let ne : i ≢ q = eqb-false i q o in
-    let g : isDoc rows d i ≡ false = ne-eqb _ _ (λ z. ne (only i b z)) in
-    getD-set-other rows q i _ noRow ne ∙ ap (λ x. flagged x (rowAt rows i)) (sym (flag-back (shownAt rows i) (bit i b)))
-    ∙ ap (λ x. flagged (flag (not x && isShown rows i)) (rowAt rows i)) (sym g) ∙ sym (flags-row f rows i b)))
+    let g : isDoc rows d q ≡ true = eq-eqb _ _ e in
+    set-only rows (hide d rows) q (flagged 0 (rowAt rows q)) l (flags-length f rows)
+    (flags-row f rows q l ∙ ap (λ x. flagged (flag (not x && isShown rows q)) (rowAt rows q)) g)
+    (λ i b ne.
+    let h : isDoc rows d i ≡ false = ne-eqb _ _ (λ z. ne (only i b z)) in
+    flags-row f rows i b ∙ ap (λ x. flagged (flag (not x && isShown rows i)) (rowAt rows i)) h ∙ ap (λ x. flagged x (rowAt rows i)) (flag-back (shownAt rows i) (bit i b)))
 
 -- THE WORDS
 
@@ -125,15 +106,11 @@ module _ (old : List ℕ) (d : ℕ) (f : Navigates old d) (word : tableOf old .n
 
       -- Its row hidden.
       hidden-is : Over (hide d c) old k (put packed (6 + 4 * q) (0 ∷ []))
-      unfolding hide
       hidden-is =
-          let e : 6 + 4 * q ≡ 3 + (4 * q + 3) = omega arith in
-          record {
-            count-is = is .count-is ∙ sym (flags-length _ c);
-            words-are = ap (λ j. put packed j (0 ∷ [])) e ∙ over-word c old k packed is (4 * q + 3) 0 (omega arith)
-                ∙ ap (put old 3) (set-flag c q 0 inside ∙ ap (flatMap rowWords) (hide-is c q d inside doc-there
-                (λ i m z. distinct (clear-sound .tree) i q m inside (z ∙ sym doc-there)) (clear-sound .s6 .bit)));
-          }
+          let e : 3 + (4 * q + 3) ≡ 6 + 4 * q = omega arith in
+          subst₂ (λ rs j. Over rs old k (put packed j (0 ∷ [])))
+          (hide-is c q d inside doc-there (λ i m z. distinct (clear-sound .tree) i q m inside (z ∙ sym doc-there)) (clear-sound .s6 .bit)) e
+          (over-set c old k packed is q 3 0 (flagged 0 (rowAt c q)) l (omega arith) refl)
 
       -- The row that comes.
       abbrev comes : Row

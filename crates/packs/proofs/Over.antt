@@ -5,10 +5,13 @@ use mathlib.Core.Path.{_≡_, sym, ap, ap₂, subst, _∙_}
 use native.Mathlib.Nat.{not-suc-le-zero}
 use native.Mathlib.Numerals.{add-one}
 use native.Mathlib.Omega.{arith}
-use lib.ListN.{length, getD, set}
-use lib.Seq.{set-set}
-use Rattle.rules.specs.Rows.{Row, rowAt}
+use lib.ListN.{length, getD, set, length-set}
+use lib.Dec.{eqb}
+use lib.Seq.{ext-getD, getD-set-same, getD-set-other, set-set, set-append-left}
+use borrow.Author.Tests.{eqb-true, eqb-false}
+use Rattle.rules.specs.Rows.{Row, noRow, rowAt}
 use Rattle.rules.specs.Words.{put, capacity, capacityOf, rowIn, rowsOf, rowWords}
+use Rattle.laws.proofs.Tests.{test}
 use Rattle.laws.proofs.Append.{length-snoc}
 use Rattle.laws.proofs.Words.{rows-length, rows-row, length-words, word-at, rowIn-words}
 use Rattle.laws.proofs.Appended.{words-snoc}
@@ -25,6 +28,28 @@ set-in-put (w ∷ vs) l i zero v h =
 set-in-put (w ∷ vs) l i (suc j) v h =
     let e : i + suc j ≡ suc i + j = omega arith in
     rw e (set-in-put vs (set l i w) (suc i) j v (omega arith))
+
+-- One word of a row.
+set-row : (rs : List Row) (q c v : ℕ) (r : Row) → q < length rs → c < 4 → rowWords r ≡ set (rowWords (rowAt rs q)) c v →
+    set (flatMap rowWords rs) (4 * q + c) v ≡ flatMap rowWords (set rs q r)
+unfolding flatMap
+set-row [] q c v r l b e = absurd (not-suc-le-zero l)
+set-row (x ∷ rs) zero c v r l b e =
+    let z : 4 * zero + c ≡ c = omega arith in
+    rw z (set-append-left (rowWords x) (flatMap rowWords rs) c v b ∙ ap (λ t. t ++ flatMap rowWords rs) (sym e))
+set-row (x ∷ rs) (suc q) c v r l b e =
+    let z : 4 * suc q + c ≡ suc (suc (suc (suc (4 * q + c)))) = omega arith in
+    rw z (ap (λ t. rowWords x ++ t) (set-row rs q c v r (omega arith) b e))
+
+-- A row written anew, where that is all in which two lists of rows differ.
+pub set-only : (rs to : List Row) (q : ℕ) (r : Row) → q < length rs → length to ≡ length rs → rowAt to q ≡ r →
+    ((i : ℕ) → i < length rs → (i ≡ q → ⊥) → rowAt to i ≡ rowAt rs i) → set rs q r ≡ to
+set-only rs to q r l n here rest =
+    ext-getD noRow _ _ (length-set rs q r ∙ sym n) (λ i h.
+    let b : i < length rs = subst (λ m. i < m) (length-set rs q r) h in
+    test (eqb i q)
+    (λ t. let z : i ≡ q = eqb-true i q t in ap (rowAt (set rs q r)) z ∙ getD-set-same rs q r noRow l ∙ sym here ∙ ap (rowAt to) (sym z))
+    (λ f. getD-set-other rs q i r noRow (eqb-false i q f) ∙ sym (rest i b (eqb-false i q f))))
 
 module _ (rs : List Row) (old : List ℕ) (k : ℕ) (new : List ℕ) (o : Over rs old k new) where
   -- Their words.
@@ -74,9 +99,14 @@ module _ (rs : List Row) (old : List ℕ) (k : ℕ) (new : List ℕ) (o : Over r
         words-are = e ∙ ap₂ (λ w m. put w m (rowWords r)) (o .words-are) at ∙ put-put ws (rowWords r) old 3 ∙ ap (put old 3) (sym (words-snoc rs r));
       }
 
-  -- One of their words written anew.
-  pub over-word : (j v : ℕ) → j < 4 * k → put new (3 + j) (v ∷ []) ≡ put old 3 (set ws j v)
-  over-word j v l = sym (put-one new (3 + j) v) ∙ ap (λ w. set w (3 + j) v) (o .words-are) ∙ set-in-put ws old 3 j v (omega (arith, words-length))
+  -- One word of one of them written anew: row q is r then.
+  pub over-set : (q c v : ℕ) (r : Row) → q < k → c < 4 → rowWords r ≡ set (rowWords (rowAt rs q)) c v → Over (set rs q r) old k (put new (3 + (4 * q + c)) (v ∷ []))
+  over-set q c v r l b e =
+      record {
+        count-is = o .count-is ∙ sym (length-set rs q r);
+        words-are = sym (put-one new (3 + (4 * q + c)) v) ∙ ap (λ w. set w (3 + (4 * q + c)) v) (o .words-are) ∙ set-in-put ws old 3 (4 * q + c) v (omega (arith, words-length))
+            ∙ ap (put old 3) (set-row rs q c v r (omega (arith, o .count-is)) b e);
+      }
 
 -- The first rows put where they are.
 pub over-same : (rs : List Row) (old : List ℕ) (k : ℕ) → k ≡ length rs → k ≤ length (rowsOf old) → ((j : ℕ) → j < k → rowAt rs j ≡ rowAt (rowsOf old) j) → Over rs old k old

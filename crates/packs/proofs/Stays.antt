@@ -7,13 +7,14 @@ use mathlib.Core.Path.{_≡_, refl, sym, ap, subst, _∙_}
 use native.Mathlib.Omega.{arith}
 use lib.Dec.{eqb}
 use lib.ListN.{length}
-use borrow.Author.Tests.{eqb-true, eq-eqb, not-true}
+use borrow.Author.Tests.{eqb-true, eq-eqb}
+use Rattle.rules.specs.Below.{someBelow}
 use Rattle.rules.specs.Rows.{Row, none, docAt, parentAt, isDoc, climb}
 use Rattle.rules.specs.Moves.{beneathAsk, gone, without}
-use Rattle.laws.proofs.Tests.{test, clash, off, same-tests, or-right, or-cases, some-in, some-out, count-in, count-most, nth}
+use Rattle.laws.proofs.Tests.{test, clash, same-tests, or-right, or-cases, some-in, some-out, count-in, count-most, nth}
 use Rattle.laws.proofs.Kept.{kept-length}
 use Rattle.laws.proofs.Tree.{TreeOf, distinct, proper}
-use Rattle.laws.proofs.Climb.{climb-none, climb-is, climb-out}
+use Rattle.laws.proofs.Climb.{climb-none, climb-is}
 use Rattle.laws.proofs.Removal.{stays, stays-in, gone-later}
 use Rattle.packs.specs.Packing.{docKept, parentKept}
 use Rattle.packs.proofs.Packed.{Sees}
@@ -43,6 +44,13 @@ module _ (q : ℕ → Bool) (rows : List Row) where
     abbrev keep : ℕ → Bool
     keep = stays q rows
 
+    -- What they hold is the document of an earlier row that stays.
+    pub held-stays : (d : ℕ) → So (someBelow k (isDoc new d)) → (j : ℕ) × (j < i) × So (keep j) × (docAt rows j ≡ d)
+    held-stays d f =
+        let o = some-out (isDoc new d) k f in
+        let m = nth keep i (o .0) (subst (λ x. o .0 < x) (see .count-is) (o .1)) in
+        (m .0, m .1, m .2, sym (see .moved (m .0) (m .1) (m .2) .d) ∙ ap (docAt new) (m .3) ∙ eqb-true _ _ (o .2))
+
     -- They hold the document of an earlier row exactly when that row stays.
     pub doc-told : (j : ℕ) → j < i → docKept new k (docAt rows j) ≡ keep j
     unfolding docKept
@@ -52,10 +60,8 @@ module _ (q : ℕ → Bool) (rows : List Row) where
         ⊎-elim
         (λ z. absurd (proper t j (omega arith) (eqb-true _ _ z)))
         (λ f.
-        let o = some-out (isDoc new (docAt rows j)) k f in
-        let m = nth keep i (o .0) (subst (λ x. o .0 < x) (see .count-is) (o .1)) in
-        let d : docAt rows (m .0) ≡ docAt rows j = sym (see .moved (m .0) (m .1) (m .2) .d) ∙ ap (docAt new) (m .3) ∙ eqb-true _ _ (o .2) in
-        subst (λ x. So (keep x)) (distinct t (m .0) j (omega arith) (omega arith) d) (m .2))
+        let m = held-stays (docAt rows j) f in
+        subst (λ x. So (keep x)) (distinct t (m .0) j (omega (arith, m .1)) (omega arith) (m .3)) (m .2))
         (or-cases (eqb (docAt rows j) none) _ h))
         (λ s. or-right (eqb (docAt rows j) none) (some-in (isDoc new (docAt rows j)) k (omega (arith, see .count-is, count-in keep i l s)) (eq-eqb _ _ (see .moved j l s .d))))
 

@@ -1,8 +1,8 @@
 -- What the scans and the single writes tell. Assumes nothing.
 use Prim.Native.Nat.{ℕ, _+_, _-_, _*_, _≤_, _<_}
-use mathlib.Core.Bool.{Bool, true, false, So}
+use mathlib.Core.Bool.{Bool, true, false, So, cond}
 use mathlib.Core.List.{List, [], _∷_}
-use mathlib.Core.Path.{_≡_, refl, sym, ap, subst, _∙_}
+use mathlib.Core.Path.{_≡_, refl, sym, ap, ap₂, subst, _∙_}
 use native.Mathlib.Omega.{arith}
 use lib.ListN.{replicate}
 use borrow.Author.Tests.{eqb-true, eq-eqb, ne-eqb}
@@ -18,7 +18,8 @@ use Rattle.reads.specs.declared.Found.the-variants.{At, Nothing}
 use Rattle.reads.proofs.Scans.{found-at, found-lower, found-nothing, some-found, none-found}
 use Rattle.rows.specs.Readable.{readOf}
 use Rattle.rows.specs.declared.Row.{Row as Read}
-use Rattle.packs.specs.Packing.{docKept, parentKept, Moved, ended}
+use Rattle.packs.specs.Packing.{docKept, parentKept, Moved, Turn, ended}
+use Rattle.packs.specs.declared.Keeping.{Keeping}
 
 module _ (rows : List Row) (k i up : ℕ) (named : up ≡ parentAt rows i) where
   -- A row without a parent.
@@ -74,3 +75,18 @@ zeros-none l from to h = let e : 4 * (to - from) ≡ 0 = omega arith in rw e (pu
 pub ends : (w : List ℕ) (k n next top : ℕ) (w1 w2 : List ℕ) → w1 ≡ put w (3 + 4 * k) (replicate (4 * (n - k)) 0) → w2 ≡ put w1 0 (k ∷ next ∷ top ∷ []) → w2 ≡ ended w k n next top
 unfolding ended
 ends w k n next top w1 w2 a b = b ∙ ap (λ l. put l 0 (k ∷ next ∷ top ∷ [])) a
+
+-- A whole turn: at a row that passes, and at another.
+module _ (old : List ℕ) (i : ℕ) (v : Bool) (kept : Keeping) where
+  pub passed : v ≡ true → Turn v old i kept kept old
+  passed z = subst (λ v. Turn v old i kept kept old) (sym z) (record { moved = record { next-is = refl; words-are = refl }; found-is = refl; missed-is = refl })
+
+  pub turned : (next : Keeping) (u : ℕ) (b : Bool) (new : List ℕ) → v ≡ false → u ≡ parentAt (rowsOf old) i → b ≡ parentKept (rowsOf old) (kept .rows) i →
+      Moved b old i (kept .rows) (next .rows) new → next .found .0 ≡ cond b u (kept .found .0) → next .missed .0 ≡ cond b (kept .missed .0) u → Turn v old i kept next new
+  turned next u b new z e f m x y =
+      subst (λ v. Turn v old i kept next new) (sym z)
+      (record {
+        moved = subst (λ c. Moved c old i (kept .rows) (next .rows) new) f m;
+        found-is = x ∙ ap₂ (λ c w. cond c w (kept .found .0)) f e;
+        missed-is = y ∙ ap₂ (λ c w. cond c (kept .missed .0) w) f e;
+      })

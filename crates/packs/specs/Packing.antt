@@ -1,6 +1,6 @@
 -- What a turn of closing gaps asks and does, and what rows closed up and a record ended are. Definitions.
-use Prim.Native.Nat.{ℕ, _+_, _-_, _*_}
-use mathlib.Core.Bool.{Bool, _||_, cond}
+use Prim.Native.Nat.{ℕ, _+_, _-_, _*_, _≤_}
+use mathlib.Core.Bool.{Bool, true, false, not, _&&_, _||_, cond}
 use mathlib.Core.List.{List, [], _∷_, flatMap}
 use mathlib.Core.Path.{_≡_}
 use lib.Dec.{eqb}
@@ -8,6 +8,7 @@ use lib.ListN.{length, replicate}
 use Rattle.rules.specs.Below.{someBelow}
 use Rattle.rules.specs.Rows.{Row, none, rowAt, parentAt, isDoc}
 use Rattle.rules.specs.Words.{put, rowsOf, rowWords}
+use Rattle.packs.specs.declared.Keeping.{Keeping}
 
 -- Document d is none, or one of the rows before k holds it.
 unfoldable pub docKept : List Row → ℕ → ℕ → Bool
@@ -21,6 +22,18 @@ parentKept rows k i = docKept rows k (parentAt rows i)
 pub record Moved (stays : Bool) (old : List ℕ) (i k next : ℕ) (new : List ℕ) : Type 0 where
   pub next-is : next ≡ cond stays (k + 1) k
   pub words-are : new ≡ cond stays (put old (3 + 4 * k) (rowWords (rowAt (rowsOf old) i))) old
+
+-- What a turn at row i may rely on: no more rows are kept than come before, and of two documents it is known whether the rows kept hold them.
+pub record Knows (rows : List Row) (i : ℕ) (kept : Keeping) : Type 0 where
+  pub few : kept .rows ≤ i
+  pub found-is : docKept rows (kept .rows) (kept .found .0) ≡ true
+  pub missed-is : docKept rows (kept .rows) (kept .missed .0) ≡ false
+
+-- A turn at row i, which goes if it passes or its parent is not kept. Of a row that does not pass the parent is then the one found, or the one missed.
+pub record Turn (passes : Bool) (old : List ℕ) (i : ℕ) (kept next : Keeping) (new : List ℕ) : Type 0 where
+  pub moved : Moved (not passes && parentKept (rowsOf old) (kept .rows) i) old i (kept .rows) (next .rows) new
+  pub found-is : next .found .0 ≡ cond (not passes && parentKept (rowsOf old) (kept .rows) i) (parentAt (rowsOf old) i) (kept .found .0)
+  pub missed-is : next .missed .0 ≡ cond (passes || parentKept (rowsOf old) (kept .rows) i) (kept .missed .0) (parentAt (rowsOf old) i)
 
 -- The k rows put over the first ones of a record; every other word stays.
 pub record Over (rs : List Row) (old : List ℕ) (k : ℕ) (new : List ℕ) : Type 0 where

@@ -5,14 +5,14 @@ use base::RowPlace;
 use reads::Found;
 use reads::NONE;
 ghost use mathlib.Core.Path.{_≡_};
-ghost use mathlib.Core.Bool.{true, false, So};
+ghost use mathlib.Core.Bool.{true, false, So, cond};
 ghost use Prim.Native.Nat.{_+_, _-_, _*_, _<_, _≤_};
 ghost use lib.ListN.{length, replicate};
 ghost use Rattle.rules.specs.Below.{someBelow};
 ghost use Rattle.rules.specs.Rows.{docAt, isDoc};
 ghost use Rattle.rules.specs.Words.{put, rowsOf};
 ghost use Rattle.reads.specs.Within.{Before, Within};
-ghost use Rattle.packs.specs.Packing.{docKept, parentKept, Moved, ended};
+ghost use Rattle.packs.specs.Packing.{docKept, parentKept, Moved, Knows, Turn, ended};
 
 // Whether a row has no parent, or one of the first k rows holds it.
 pub fn parent_kept(words: &[u32], at: RowPlace, k: usize) -> bool
@@ -55,6 +55,40 @@ pub fn keep_row(words: &mut [u32], at: RowPlace, k: usize, stays: bool) -> usize
     let r = rows::read_row(words, at);
     writes::put_row(words, RowPlace(k), r.document, r.frame, r.parent, r.shown);
     k + 1
+}
+
+// What closing the gaps keeps in mind: how many rows are kept, a document that is none or held by one of them, and one that is neither.
+pub struct Keeping {
+    pub rows: usize,
+    pub found: DocNo,
+    pub missed: DocNo,
+}
+
+// One document or the other.
+fn either(first: bool, a: DocNo, b: DocNo) -> DocNo
+    ensures { λ r. ⌜ r .0 ≡ cond first (a .0) (b .0) ⌝ }
+{
+    if first { a } else { b }
+}
+
+// A turn at a row: it goes if it passes or its parent went, else it is moved down behind the rows kept so far.
+pub fn turn(words: &mut [u32], at: RowPlace, passes: bool, kept: Keeping) -> Keeping
+    requires { ⌜ Within (now words) (at .0) × Knows (rowsOf (now words)) (at .0) kept ⌝ }
+    ensures { λ r. ⌜ Turn passes (now (words .entry)) (at .0) kept r (now (words .exit)) ⌝ }
+{
+    if passes {
+        return kept;
+    }
+    let up = reads::parent(words, at);
+    let upheld = parent_known(words, at, kept.rows, kept.found, kept.missed);
+    let rows = keep_row(words, at, kept.rows, upheld);
+    let found = either(upheld, up, kept.found);
+    let missed = either(upheld, kept.missed, up);
+    Keeping {
+        rows,
+        found,
+        missed,
+    }
 }
 
 // The row that holds a document, where one of the first k rows does.

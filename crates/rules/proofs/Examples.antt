@@ -16,11 +16,12 @@ use lib.Seq.{sets-eq}
 use Rattle.rules.specs.Below.{someBelow, allBelow, count, earliest, latest, sum, tab, gather}
 use Rattle.rules.specs.Rows.{none, docAt, isShown, inRecord, place, isFrame, flag, withFlags, climb}
 use Rattle.rules.specs.Steps.{step, reach, position, steps, climbOf, hiderOf, visible}
-use Rattle.rules.specs.Moves.{opened, gone, without, hide, navigated, show, forward, backTarget, rowBefore, back, walked, shownDoc, changeRow, changes}
+use Rattle.rules.specs.Moves.{opened, gone, without, hide, navigated, renamed, replaced, show, forward, backTarget, rowBefore, back, walked, shownDoc, changeRow, changes}
 use Rattle.rules.specs.Words.{put, tableOf, rowsOf, wordsOf, written}
 use Rattle.rules.specs.Sound.{soundTable?, sound?}
 use Rattle.rules.specs.Asks.{takenList, upcomingList, stretched, outlineFrame, outlineOf}
-use Rattle.rules.specs.Saved.{number, docsOf, shownPlace, parentOf, contents, body, saved, toldRow, toldRows, loaded, fromSave?}
+use Rattle.rules.specs.Saved.{number, docsOf, shownPlace, parentOf, contents, savedWith, body, toldRow, toldRows, rowFor, loaded, fromSave?}
+use Rattle.rules.specs.OldSaved.{oldBody, oldLoaded, oldTable?, fromOldSave?}
 use Rattle.rules.specs.Places.{Place, finite, entryOf, fine?, placeOf, freedTo, spot, placed}
 use Rattle.rules.specs.Calls.{Call, Answer, Outcome, refusals, accepted, ladder, outcome}
 use Rattle.rules.specs.Runs.{Move, on, after, run}
@@ -377,6 +378,54 @@ unfolding someBelow allBelow count earliest latest tab gather inRecord place isF
     put tableOf wordsOf written soundTable? sound? refusals accepted ladder outcome run flatMap
 drops-hold = refl
 
+-- REPLACE (document 02, L7)
+
+abbrev pub replaces : List Case
+replaces =
+    -- "A login page should vanish from Back": of a fresh window, and of one that came to it by a link. Neither Back nor Forward shows it again.
+    record {
+      start = fresh 8;
+      moves = Move.replaces 0 ∷ backBy 1 ∷ [];
+      expected = record { answers = ok 1 ∷ no 6 ∷ []; stands = at 0 0; documents = 1 ∷ []; shown = 1 ∷ []; sees = 1 ∷ []; changed = room };
+    }
+    ∷ record {
+      start = fresh 8;
+      moves = Move.navigates 0 ∷ Move.replaces 1 ∷ backBy 1 ∷ forwardBy 1 ∷ [];
+      expected = record {
+        answers = ok 1 ∷ ok 2 ∷ ok 1 ∷ ok 1 ∷ [];
+        stands = at 1 1;
+        documents = 0 ∷ 2 ∷ [];
+        shown = 2 ∷ [];
+        sees = 2 ∷ [];
+        changed = 0 ∷ 0 ∷ 2 ∷ 1 ∷ [];
+      };
+    }
+    -- X, document 1: 2 and 4 beneath it go, and with 4 a taken step; 5, upcoming in its own frame, stays. Replaced twice: 6 goes in its turn, and so it is no more.
+    ∷ case X (Move.replaces 1 ∷ []) (ok 6 ∷ []) (at 0 1) (0 ∷ 6 ∷ 3 ∷ 5 ∷ []) (0 ∷ 6 ∷ 3 ∷ []) (0 ∷ 6 ∷ 3 ∷ [])
+    ∷ case X (Move.replaces 1 ∷ Move.replaces 6 ∷ Move.replaces 6 ∷ []) (ok 6 ∷ ok 7 ∷ no 4 ∷ []) (at 0 1) (0 ∷ 7 ∷ 3 ∷ 5 ∷ []) (0 ∷ 7 ∷ 3 ∷ []) (0 ∷ 7 ∷ 3 ∷ [])
+    -- X, document 4, a taken step with nothing beneath it: the position stays.
+    ∷ case X (Move.replaces 4 ∷ []) (ok 6 ∷ []) (at 1 2) (0 ∷ 1 ∷ 2 ∷ 3 ∷ 6 ∷ 5 ∷ []) (0 ∷ 1 ∷ 3 ∷ 6 ∷ []) (0 ∷ 1 ∷ 3 ∷ 6 ∷ [])
+    -- X, the root: all else goes, by whatever number it lies there.
+    ∷ case X (Move.replaces 0 ∷ []) (ok 6 ∷ []) (at 0 0) (6 ∷ []) (6 ∷ []) (6 ∷ [])
+    -- X, documents that are in no row, though 3 is a frame, or not visible: X stays.
+    ∷ record { start = X; moves = Move.replaces 9 ∷ Move.replaces 2 ∷ Move.replaces 5 ∷ []; expected = asX (no 4 ∷ no5 2 ∷ no5 5 ∷ []) [] }
+    -- Steps 3 and 4 are taken, 5 and 6 upcoming in two frames: both stay, and go on.
+    ∷ case (crossing 3 4) (Move.replaces 3 ∷ []) (ok 7 ∷ []) (at 2 4) (0 ∷ 1 ∷ 2 ∷ 7 ∷ 4 ∷ 5 ∷ 6 ∷ []) (0 ∷ 7 ∷ 4 ∷ []) (0 ∷ 7 ∷ 4 ∷ [])
+    ∷ case (crossing 3 4) (Move.replaces 3 ∷ forwardBy 1 ∷ forwardBy 1 ∷ Move.replaces 5 ∷ [])
+    (ok 7 ∷ ok 1 ∷ ok 1 ∷ ok 8 ∷ []) (at 4 4) (0 ∷ 1 ∷ 2 ∷ 7 ∷ 4 ∷ 8 ∷ 6 ∷ []) (0 ∷ 8 ∷ 6 ∷ []) (0 ∷ 8 ∷ 6 ∷ [])
+    -- The root frame went on to document 1 and back: 1 stays upcoming, though the root is replaced.
+    ∷ case (fresh 8) (Move.navigates 0 ∷ backBy 1 ∷ Move.replaces 0 ∷ []) (ok 1 ∷ ok 1 ∷ ok 2 ∷ []) (at 0 1) (2 ∷ 1 ∷ []) (2 ∷ []) (2 ∷ [])
+    -- No number comes back, and no row more is needed.
+    ∷ case (fresh 2) (Move.opens 0 ∷ Move.replaces 1 ∷ Move.replaces 0 ∷ Move.opens 3 ∷ [])
+    (Answer.gives (1 ∷ 1 ∷ []) ∷ ok 2 ∷ ok 3 ∷ Answer.gives (4 ∷ 2 ∷ []) ∷ []) (at 0 0) (3 ∷ 4 ∷ []) (3 ∷ 4 ∷ []) (3 ∷ 4 ∷ [])
+    ∷ []
+
+pub replaces-hold : map seen replaces ≡ map (λ c. c .expected) replaces
+unfolding someBelow allBelow count earliest latest tab gather inRecord place isFrame withFlags climb step reach position steps climbOf hiderOf visible
+    opened gone without hide navigated renamed replaced show forward backTarget rowBefore back walked shownDoc changeRow changes
+    put tableOf wordsOf written soundTable? sound? refusals accepted ladder outcome run flatMap
+replaces-hold = refl
+
 -- The small examples: a call and its whole outcome.
 pub record Small : Type 0 where
   pub call : Call
@@ -385,33 +434,77 @@ pub record Small : Type 0 where
 abbrev small : Call → Answer → List (List ℕ) → Small
 small c a l = record { call = c; expected = record { answer = a; lent = l } }
 
-abbrev freshBytes : List ℕ
-freshBytes =
-    0 ∷ 0 ∷ 0 ∷ 1 ∷ 0 ∷ 0 ∷ 0 ∷ 1 ∷ 0 ∷ 0 ∷ 0 ∷ 1 ∷ 0 ∷ 0 ∷ 0 ∷ 0 ∷ 255 ∷ 255 ∷ 255 ∷ 255 ∷ 0 ∷ 0 ∷ 0 ∷ 1 ∷ 0 ∷ 0 ∷ 0 ∷ 0 ∷ 0 ∷ 0 ∷ 0 ∷ 0 ∷ []
+abbrev freshContents : List ℕ
+freshContents = 0 ∷ 0 ∷ 0 ∷ 1 ∷ 0 ∷ 0 ∷ 0 ∷ 1 ∷ 0 ∷ 0 ∷ 0 ∷ 1 ∷ 0 ∷ 0 ∷ 0 ∷ 0 ∷ 255 ∷ 255 ∷ 255 ∷ 255 ∷ 0 ∷ 0 ∷ 0 ∷ 1 ∷ 0 ∷ 0 ∷ 0 ∷ 0 ∷ []
 
--- X saved, 12 + 16 * 4 + 4 * 6 bytes.
-abbrev bytesOfX : List ℕ
-bytesOfX =
+abbrev freshBytes : List ℕ
+freshBytes = freshContents ++ 0 ∷ 0 ∷ 0 ∷ 0 ∷ 0 ∷ 0 ∷ 0 ∷ 0 ∷ []
+
+abbrev oldFreshBytes : List ℕ
+oldFreshBytes = freshContents ++ 0 ∷ 0 ∷ 0 ∷ 0 ∷ []
+
+-- X saved: the contents, 12 + 16 * 4 bytes, are those of both forms.
+abbrev contentsOfX : List ℕ
+contentsOfX =
     -- "frame count F, next document, next frame"
     0 ∷ 0 ∷ 0 ∷ 4 ∷ 0 ∷ 0 ∷ 0 ∷ 6 ∷ 0 ∷ 0 ∷ 0 ∷ 4
     -- "frame, parent, number of its documents m, and which of them is shown"
     ∷ 0 ∷ 0 ∷ 0 ∷ 0 ∷ 255 ∷ 255 ∷ 255 ∷ 255 ∷ 0 ∷ 0 ∷ 0 ∷ 1 ∷ 0 ∷ 0 ∷ 0 ∷ 0
     ∷ 0 ∷ 0 ∷ 0 ∷ 1 ∷ 0 ∷ 0 ∷ 0 ∷ 0 ∷ 0 ∷ 0 ∷ 0 ∷ 2 ∷ 0 ∷ 0 ∷ 0 ∷ 0
     ∷ 0 ∷ 0 ∷ 0 ∷ 2 ∷ 0 ∷ 0 ∷ 0 ∷ 1 ∷ 0 ∷ 0 ∷ 0 ∷ 2 ∷ 0 ∷ 0 ∷ 0 ∷ 1
+    ∷ 0 ∷ 0 ∷ 0 ∷ 3 ∷ 0 ∷ 0 ∷ 0 ∷ 0 ∷ 0 ∷ 0 ∷ 0 ∷ 1 ∷ 0 ∷ 0 ∷ 0 ∷ 0 ∷ []
+
+-- The entries of frames 0, 1, 2 and 3, "document number and row place", 8 * 6 bytes; in the old form the documents, 4 * 6.
+abbrev bytesOfX : List ℕ
+bytesOfX =
+    contentsOfX
+    ++ 0 ∷ 0 ∷ 0 ∷ 0 ∷ 0 ∷ 0 ∷ 0 ∷ 0
+    ∷ 0 ∷ 0 ∷ 0 ∷ 1 ∷ 0 ∷ 0 ∷ 0 ∷ 1 ∷ 0 ∷ 0 ∷ 0 ∷ 5 ∷ 0 ∷ 0 ∷ 0 ∷ 5
+    ∷ 0 ∷ 0 ∷ 0 ∷ 2 ∷ 0 ∷ 0 ∷ 0 ∷ 2 ∷ 0 ∷ 0 ∷ 0 ∷ 4 ∷ 0 ∷ 0 ∷ 0 ∷ 4
+    ∷ 0 ∷ 0 ∷ 0 ∷ 3 ∷ 0 ∷ 0 ∷ 0 ∷ 3 ∷ []
+
+abbrev oldBytesOfX : List ℕ
+oldBytesOfX = contentsOfX ++ 0 ∷ 0 ∷ 0 ∷ 0 ∷ 0 ∷ 0 ∷ 0 ∷ 1 ∷ 0 ∷ 0 ∷ 0 ∷ 5 ∷ 0 ∷ 0 ∷ 0 ∷ 2 ∷ 0 ∷ 0 ∷ 0 ∷ 4 ∷ 0 ∷ 0 ∷ 0 ∷ 3 ∷ []
+
+-- X with document 1 replaced by 6, and its bytes: 12 + 16 * 3 + 8 * 4.
+abbrev renewed : List ℕ
+renewed = holding 8 (row 0 0 none 1 ∷ row 6 1 0 1 ∷ row 3 3 0 1 ∷ row 5 1 0 0 ∷ []) 7 4
+
+abbrev bytesOfRenewed : List ℕ
+bytesOfRenewed =
+    0 ∷ 0 ∷ 0 ∷ 3 ∷ 0 ∷ 0 ∷ 0 ∷ 7 ∷ 0 ∷ 0 ∷ 0 ∷ 4
+    ∷ 0 ∷ 0 ∷ 0 ∷ 0 ∷ 255 ∷ 255 ∷ 255 ∷ 255 ∷ 0 ∷ 0 ∷ 0 ∷ 1 ∷ 0 ∷ 0 ∷ 0 ∷ 0
+    ∷ 0 ∷ 0 ∷ 0 ∷ 1 ∷ 0 ∷ 0 ∷ 0 ∷ 0 ∷ 0 ∷ 0 ∷ 0 ∷ 2 ∷ 0 ∷ 0 ∷ 0 ∷ 0
     ∷ 0 ∷ 0 ∷ 0 ∷ 3 ∷ 0 ∷ 0 ∷ 0 ∷ 0 ∷ 0 ∷ 0 ∷ 0 ∷ 1 ∷ 0 ∷ 0 ∷ 0 ∷ 0
-    -- the documents of frames 0, 1, 2 and 3
-    ∷ 0 ∷ 0 ∷ 0 ∷ 0
-    ∷ 0 ∷ 0 ∷ 0 ∷ 1 ∷ 0 ∷ 0 ∷ 0 ∷ 5
-    ∷ 0 ∷ 0 ∷ 0 ∷ 2 ∷ 0 ∷ 0 ∷ 0 ∷ 4
-    ∷ 0 ∷ 0 ∷ 0 ∷ 3 ∷ []
+    -- documents 0; 6 and 5; 3, each with its row place
+    ∷ 0 ∷ 0 ∷ 0 ∷ 0 ∷ 0 ∷ 0 ∷ 0 ∷ 0
+    ∷ 0 ∷ 0 ∷ 0 ∷ 6 ∷ 0 ∷ 0 ∷ 0 ∷ 1 ∷ 0 ∷ 0 ∷ 0 ∷ 5 ∷ 0 ∷ 0 ∷ 0 ∷ 3
+    ∷ 0 ∷ 0 ∷ 0 ∷ 3 ∷ 0 ∷ 0 ∷ 0 ∷ 2 ∷ []
 
 -- Fresh with other next numbers.
 abbrev next : ℕ → ℕ → List ℕ
 next d f = holding 2 (row 0 0 none 1 ∷ []) d f
 
--- Document 0 gave way to document 1 in its frame.
+-- Documents 0, 2 and 1 in the root frame, and word 1; saved.
+abbrev falling : ℕ → List ℕ
+falling d = holding 3 (row 0 0 none 1 ∷ row 2 0 none 0 ∷ row 1 0 none 0 ∷ []) d 1
+
+abbrev contentsOfFalling : List ℕ
+contentsOfFalling = 0 ∷ 0 ∷ 0 ∷ 1 ∷ 0 ∷ 0 ∷ 0 ∷ 3 ∷ 0 ∷ 0 ∷ 0 ∷ 1 ∷ 0 ∷ 0 ∷ 0 ∷ 0 ∷ 255 ∷ 255 ∷ 255 ∷ 255 ∷ 0 ∷ 0 ∷ 0 ∷ 3 ∷ 0 ∷ 0 ∷ 0 ∷ 0 ∷ []
+
+-- With these row places; in the old form there are none.
+abbrev fallingAt : ℕ → ℕ → ℕ → List ℕ
+fallingAt p q r = contentsOfFalling ++ 0 ∷ 0 ∷ 0 ∷ 0 ∷ 0 ∷ 0 ∷ 0 ∷ p ∷ 0 ∷ 0 ∷ 0 ∷ 2 ∷ 0 ∷ 0 ∷ 0 ∷ q ∷ 0 ∷ 0 ∷ 0 ∷ 1 ∷ 0 ∷ 0 ∷ 0 ∷ r ∷ []
+
+abbrev oldBytesOfFalling : List ℕ
+oldBytesOfFalling = contentsOfFalling ++ 0 ∷ 0 ∷ 0 ∷ 0 ∷ 0 ∷ 0 ∷ 0 ∷ 2 ∷ 0 ∷ 0 ∷ 0 ∷ 1 ∷ []
+
+-- Document 0 gave way to document 1 in its frame: with this word 1, and with the one that the calls leave.
+abbrev last : ℕ → List ℕ
+last d = holding 2 (row 0 0 none 0 ∷ row 1 0 none 1 ∷ []) d 1
+
 abbrev left : List ℕ
-left = holding 2 (row 0 0 none 0 ∷ row 1 0 none 1 ∷ []) 2 1
+left = last 2
 
 -- Frame 0 lies in the document of frame 1; the table is full, and all numbers are used.
 abbrev swapped : List ℕ
@@ -434,12 +527,15 @@ unsound words = small (Call.Position words) (no 2) []
 
 abbrev pub smalls : List Small
 smalls =
-    -- "Saved fresh record: 32 bytes."
-    small (Call.Save (fresh 8) (replicate 34 7)) (ok 32) ((freshBytes ++ 7 ∷ 7 ∷ []) ∷ [])
-    ∷ small (Call.Save (fresh 8) (replicate 31 7)) (no 9) (replicate 31 7 ∷ [])
+    -- "length 12 + 16F + 8n": a saved fresh record has 36 bytes, and had 32 in the old form. Neither loading call takes the other's bytes.
+    small (Call.Save (fresh 8) (replicate 38 7)) (ok 36) ((freshBytes ++ 7 ∷ 7 ∷ []) ∷ [])
+    ∷ small (Call.Save (fresh 8) (replicate 35 7)) (no 9) (replicate 35 7 ∷ [])
     ∷ small (Call.Load (replicate 9 7) freshBytes) (ok 1) ((1 ∷ 1 ∷ 1 ∷ 0 ∷ 0 ∷ none ∷ 1 ∷ 7 ∷ 7 ∷ []) ∷ [])
+    ∷ small (Call.LoadOld (replicate 9 7) oldFreshBytes) (ok 1) ((1 ∷ 1 ∷ 1 ∷ 0 ∷ 0 ∷ none ∷ 1 ∷ 7 ∷ 7 ∷ []) ∷ [])
+    ∷ small (Call.Load (replicate 7 7) oldFreshBytes) (no 3) (replicate 7 7 ∷ [])
+    ∷ small (Call.LoadOld (replicate 7 7) freshBytes) (no 3) (replicate 7 7 ∷ [])
     -- "big-endian, four a number": 16909060 is 1, 2, 3, 4.
-    ∷ small (Call.Save (next 16909060 1) (replicate 32 7)) (ok 32) ((0 ∷ 0 ∷ 0 ∷ 1 ∷ 1 ∷ 2 ∷ 3 ∷ 4 ∷ drop 8 freshBytes) ∷ [])
+    ∷ small (Call.Save (next 16909060 1) (replicate 36 7)) (ok 36) ((0 ∷ 0 ∷ 0 ∷ 1 ∷ 1 ∷ 2 ∷ 3 ∷ 4 ∷ drop 8 freshBytes) ∷ [])
     -- "Record of 6 words: refused 1; 7 words: C = 1, Fresh accepted, then Open refused 7."
     ∷ small (Call.Fresh (replicate 6 7)) (no 1) (replicate 6 7 ∷ [])
     ∷ small (Call.Fresh (replicate 7 7)) (Answer.gives []) ((1 ∷ 1 ∷ 1 ∷ 0 ∷ 0 ∷ none ∷ 1 ∷ []) ∷ [])
@@ -451,11 +547,13 @@ smalls =
     ∷ small (Call.Position (fresh 1 ++ 7 ∷ [])) (at 0 0) []
     -- "Empty saved bytes: refused 3."
     ∷ small (Call.Load (replicate 7 7) []) (no 3) (replicate 7 7 ∷ [])
-    -- X again: its lists, its outline, its bytes and back.
+    ∷ small (Call.LoadOld (replicate 7 7) []) (no 3) (replicate 7 7 ∷ [])
+    -- X again: its lists, its outline, its bytes and back; and back from the old form.
     ∷ small (Call.Lists X (9 ∷ 9 ∷ []) (9 ∷ 9 ∷ [])) (Answer.gives (1 ∷ 1 ∷ [])) ((4 ∷ 9 ∷ []) ∷ (5 ∷ 9 ∷ []) ∷ [])
     ∷ small (Call.Outline X (replicate 9 9)) (ok 4) ((0 ∷ 0 ∷ 1 ∷ 1 ∷ 2 ∷ 4 ∷ 1 ∷ 3 ∷ 9 ∷ []) ∷ [])
-    ∷ small (Call.Save X (replicate 101 7)) (ok 100) ((bytesOfX ++ 7 ∷ []) ∷ [])
+    ∷ small (Call.Save X (replicate 125 7)) (ok 124) ((bytesOfX ++ 7 ∷ []) ∷ [])
     ∷ small (Call.Load (replicate 35 7) bytesOfX) (ok 6) (X ∷ [])
+    ∷ small (Call.LoadOld (replicate 35 7) oldBytesOfX) (ok 6) (X ∷ [])
     -- "taken steps, latest first, and upcoming steps, earliest first; words past them keep their values"
     ∷ small (Call.Lists (crossing 3 4) (replicate 3 9) (replicate 3 9)) (Answer.gives (2 ∷ 2 ∷ [])) ((4 ∷ 3 ∷ 9 ∷ []) ∷ (5 ∷ 6 ∷ 9 ∷ []) ∷ [])
     -- Change rows "by rising frame number", though frame 2 moves first, forward and back. "Further rows keep what they held."
@@ -488,13 +586,37 @@ smalls =
     ∷ small (Call.Drop nine 9) (no 2) (nine ∷ [])
     ∷ small (Call.Drop nine 0) (no 2) (nine ∷ [])
     ∷ small (Call.Drop (underHidden ++ 7 ∷ 7 ∷ 7 ∷ 7 ∷ []) 2) (no 2) ((underHidden ++ 7 ∷ 7 ∷ 7 ∷ 7 ∷ []) ∷ [])
+    -- Replace. "everything beneath it goes, the row takes the next document number, stays shown", in its own row with its frame and parent; word 1 rises by one, and rows no
+    -- longer in use become zero words.
+    ∷ small (Call.Replace X 1) (ok 6) (renewed ∷ [])
+    ∷ small (Call.Replace (next 1 none) 0) (ok 1) (holding 2 (row 1 0 none 1 ∷ []) 2 none ∷ [])
+    -- "Refusals: 4, 5 and 8 as for navigation", in this order, and 1 and 2 before them. A full table is none.
+    ∷ small (Call.Replace (next none 1) 9) (no 4) (next none 1 ∷ [])
+    ∷ small (Call.Replace (last none) 0) (no5 0) (last none ∷ [])
+    ∷ small (Call.Replace (last none) 1) (no 8) (last none ∷ [])
+    ∷ small (Call.Replace (replicate 6 0) 0) (no 1) (replicate 6 0 ∷ [])
+    ∷ small (Call.Replace nine 9) (no 2) (nine ∷ [])
+    -- "each body entry becomes document number and row place, by rising row place": a record after Replace, saved and back. The old form has no such bytes.
+    ∷ small (Call.Save renewed (replicate 92 7)) (ok 92) (bytesOfRenewed ∷ [])
+    ∷ small (Call.Load (replicate 35 7) bytesOfRenewed) (ok 4) (renewed ∷ [])
+    ∷ small (Call.LoadOld (replicate 35 7) bytesOfRenewed) (no 3) (replicate 35 7 ∷ [])
     -- "record unsound", by one rule alone. S1: no row; more rows than C, which is 1.
     ∷ unsound (0 ∷ 1 ∷ 1 ∷ 0 ∷ 0 ∷ 0 ∷ 0 ∷ [])
     ∷ unsound (2 ∷ 2 ∷ 1 ∷ 0 ∷ 0 ∷ none ∷ 1 ∷ 1 ∷ 0 ∷ none ∷ [])
-    -- S2: document 2 before document 1; document 1 twice; document 0 is the last and word 1 is 0.
-    ∷ unsound (holding 3 (row 0 0 none 1 ∷ row 2 0 none 0 ∷ row 1 0 none 0 ∷ []) 3 1)
+    -- S2: "numbers are distinct", in rows that follow each other and in others; "and all below word 1", the last and one before it.
     ∷ unsound (holding 3 (row 0 0 none 1 ∷ row 1 0 none 0 ∷ row 1 0 none 0 ∷ []) 2 1)
+    ∷ unsound (holding 3 (row 1 0 none 1 ∷ row 0 0 none 0 ∷ row 1 0 none 0 ∷ []) 2 1)
     ∷ unsound (next 0 1)
+    ∷ unsound (falling 2)
+    -- "no longer rising": document 2 before document 1 is sound. The old form has no row places, and its bytes are refused as ever.
+    ∷ small (Call.Position (falling 3)) (at 0 2) []
+    ∷ small (Call.Save (falling 3) (replicate 52 7)) (ok 52) (fallingAt 0 1 2 ∷ [])
+    ∷ small (Call.Load (replicate 15 7) (fallingAt 0 1 2)) (ok 3) (falling 3 ∷ [])
+    ∷ small (Call.LoadOld (replicate 15 7) oldBytesOfFalling) (no 3) (replicate 15 7 ∷ [])
+    -- "by rising row place [..] the row places of all bodies being 0 to n - 1 once each": falling, twice, past the last.
+    ∷ small (Call.Load (replicate 15 7) (fallingAt 0 2 1)) (no 3) (replicate 15 7 ∷ [])
+    ∷ small (Call.Load (replicate 15 7) (fallingAt 0 1 1)) (no 3) (replicate 15 7 ∷ [])
+    ∷ small (Call.Load (replicate 15 7) (fallingAt 0 1 3)) (no 3) (replicate 15 7 ∷ [])
     -- S3: frame 1, and word 2 is 1.
     ∷ unsound (holding 2 (row 0 1 none 1 ∷ row 1 0 0 1 ∷ []) 2 1)
     -- S4: the parent is the document itself; the parent is in no row.
@@ -532,6 +654,7 @@ smalls =
     ∷ small (Call.Drop nested 1) (no5 0) (nested ∷ [])
     -- "no row left (Navigate: after removal; Load: n above C)"
     ∷ small (Call.Load (replicate 26 7) bytesOfX) (no 7) (replicate 26 7 ∷ [])
+    ∷ small (Call.LoadOld (replicate 26 7) oldBytesOfX) (no 7) (replicate 26 7 ∷ [])
     -- "next document number, or for Open the next frame number, is 4294967295"
     ∷ small (Call.Open (next none 1) 0) (no 8) (next none 1 ∷ [])
     ∷ small (Call.Open (next 1 none) 0) (no 8) (next 1 none ∷ [])
@@ -546,9 +669,9 @@ smalls =
 
 pub smalls-hold : map (λ s. outcome (s .call)) smalls ≡ map (λ s. s .expected) smalls
 unfolding someBelow allBelow count earliest latest sum tab gather inRecord place isFrame withFlags climb step reach position steps climbOf hiderOf visible
-    gone without hide navigated show forward backTarget rowBefore back walked shownDoc changeRow changes
+    gone without hide navigated renamed replaced show forward backTarget rowBefore back walked shownDoc changeRow changes
     put tableOf wordsOf written soundTable? sound? takenList upcomingList stretched outlineFrame outlineOf
-    number docsOf shownPlace parentOf contents body saved toldRow toldRows loaded fromSave? refusals accepted ladder outcome flatMap
+    number docsOf shownPlace parentOf contents savedWith body toldRow toldRows rowFor loaded fromSave? oldBody oldLoaded oldTable? fromOldSave? refusals accepted ladder outcome flatMap
 smalls-hold = refl
 
 -- "at most 512; words past 3 + 4C are neither read nor written": of 2056 words Fresh keeps the last five. A row by itself, since to compute so

@@ -10,11 +10,12 @@ use lib.IntN.{ℤ, pos, negsuc, _+ℤ_, natAbs}
 use lib.ListN.{length}
 use Rattle.rules.specs.Rows.{Row, none, inRecord, isFrame, flag}
 use Rattle.rules.specs.Steps.{position, steps, scriptLength, visible, climbOf, hiderOf, hiderNumber}
-use Rattle.rules.specs.Moves.{freshTable, opened, cleared, navigated, traversed, dropped, changes}
+use Rattle.rules.specs.Moves.{freshTable, opened, cleared, navigated, traversed, dropped, replaced, changes}
 use Rattle.rules.specs.Words.{put, capacity, tableOf, rowsOf, written}
 use Rattle.rules.specs.Sound.{sound?}
 use Rattle.rules.specs.Asks.{takenList, upcomingList, tooFar, stretched, outlineOf}
 use Rattle.rules.specs.Saved.{parentOf, saved, loaded, fromSave?}
+use Rattle.rules.specs.OldSaved.{oldLoaded, fromOldSave?}
 use Rattle.rules.specs.Places.{Place, finite, finitePlace, scaled, placeWords, fine?, placeOf, freed, noRoom, placed}
 
 -- A call with all that it is handed: `words` is the record, `room` a lent answer buffer, `parent`, `from` and `d` documents, `frame` a frame,
@@ -25,6 +26,7 @@ pub data Call : Type 0 where
   Navigate : (words : List ℕ) (from : ℕ) → Call
   Traverse : (words : List ℕ) (δ : ℤ) (room : List ℕ) → Call
   Drop : (words : List ℕ) (frame : ℕ) → Call
+  Replace : (words : List ℕ) (d : ℕ) → Call
   Position : (words : List ℕ) → Call
   Visible : (words : List ℕ) (d : ℕ) → Call
   Lists : (words : List ℕ) (takens upcomings : List ℕ) → Call
@@ -33,6 +35,7 @@ pub data Call : Type 0 where
   Outline : (words : List ℕ) (room : List ℕ) → Call
   Save : (words : List ℕ) (room : List ℕ) → Call
   Load : (words : List ℕ) (bytes : List ℕ) → Call
+  LoadOld : (words : List ℕ) (bytes : List ℕ) → Call
   SetPlace : (words places : List ℕ) (d : ℕ) (place : Place) → Call
   AskPlace : (words places : List ℕ) (d : ℕ) → Call
   AskAtZoom : (words places : List ℕ) (d : ℕ) (zoom : Float) → Call
@@ -54,6 +57,7 @@ lentTo (Call.Open words parent) = words ∷ []
 lentTo (Call.Navigate words from) = words ∷ []
 lentTo (Call.Traverse words δ room) = words ∷ room ∷ []
 lentTo (Call.Drop words frame) = words ∷ []
+lentTo (Call.Replace words d) = words ∷ []
 lentTo (Call.Position words) = []
 lentTo (Call.Visible words d) = []
 lentTo (Call.Lists words takens upcomings) = takens ∷ upcomings ∷ []
@@ -62,6 +66,7 @@ lentTo (Call.StretchCount takens upcomings δ) = []
 lentTo (Call.Outline words room) = room ∷ []
 lentTo (Call.Save words room) = room ∷ []
 lentTo (Call.Load words bytes) = words ∷ []
+lentTo (Call.LoadOld words bytes) = words ∷ []
 lentTo (Call.SetPlace words places d place) = places ∷ []
 lentTo (Call.AskPlace words places d) = []
 lentTo (Call.AskAtZoom words places d zoom) = []
@@ -156,6 +161,9 @@ refusals (Call.Traverse words δ room) =
 refusals (Call.Drop words frame) =
     1 when short words ∷ 2 when unsound words ∷ 4 when noFrame words frame ∷ 10 when rootFrame words frame
     ∷ 5 when hidden words (parentOf (rowsOf words) frame) naming hider words (parentOf (rowsOf words) frame) ∷ []
+refusals (Call.Replace words d) =
+    1 when short words ∷ 2 when unsound words ∷ 4 when absent words d ∷ 5 when hidden words d naming hider words d
+    ∷ 8 when usedUp (tableOf words .nextDoc) ∷ []
 refusals (Call.Position words) = 1 when short words ∷ 2 when unsound words ∷ []
 refusals (Call.Visible words d) = 1 when short words ∷ 2 when unsound words ∷ 4 when absent words d ∷ []
 refusals (Call.Lists words takens upcomings) =
@@ -166,14 +174,15 @@ refusals (Call.StretchCount takens upcomings δ) = 6 when tooFar takens upcoming
 refusals (Call.Outline words room) = 1 when short words ∷ 2 when unsound words ∷ 9 when tooShort room (outlineOf (tableOf words)) ∷ []
 refusals (Call.Save words room) = 1 when short words ∷ 2 when unsound words ∷ 9 when tooShort room (saved (tableOf words)) ∷ []
 refusals (Call.Load words bytes) = 1 when short words ∷ 3 when not (fromSave? bytes) ∷ 7 when ltb (capacity words) (length (loaded bytes .rows)) ∷ []
+refusals (Call.LoadOld words bytes) = 1 when short words ∷ 3 when not (fromOldSave? bytes) ∷ 7 when ltb (capacity words) (length (oldLoaded bytes .rows)) ∷ []
 refusals (Call.SetPlace words places d place) =
     1 when short words ∷ 2 when unsound words ∷ 15 when badPlaces places ∷ 4 when absent words d ∷ 11 when notFinite place ∷ 12 when noEntry words places d ∷ []
 refusals (Call.AskPlace words places d) = 1 when short words ∷ 2 when unsound words ∷ 15 when badPlaces places ∷ 4 when absent words d ∷ []
 refusals (Call.AskAtZoom words places d zoom) =
     1 when short words ∷ 2 when unsound words ∷ 15 when badPlaces places ∷ 4 when absent words d ∷ 11 when overZoomed zoom (placeOf places d) ∷ []
 
--- What a call answers and leaves that is not refused. A run keeps what stands past the values written into it. Drop: "the count of rows removed as its value". A place:
--- its kind, and the bits of a point.
+-- What a call answers and leaves that is not refused. A run keeps what stands past the values written into it. Drop: "the count of rows removed as its value";
+-- Replace: "its value the new number". A place: its kind, and the bits of a point.
 infix 20 _leaving_
 abbrev pub _leaving_ : List ℕ → List (List ℕ) → Outcome
 values leaving runs = record { answer = Answer.gives values; lent = runs }
@@ -187,6 +196,7 @@ accepted (Call.Traverse words δ room) =
     length (changes (tableOf words) δ) / 4 ∷ [] leaving written words (traversed (tableOf words) δ) ∷ put room 0 (changes (tableOf words) δ) ∷ []
 accepted (Call.Drop words frame) =
     (length (rowsOf words) - length (dropped (tableOf words) frame .rows)) ∷ [] leaving written words (dropped (tableOf words) frame) ∷ []
+accepted (Call.Replace words d) = tableOf words .nextDoc ∷ [] leaving written words (replaced (tableOf words) d) ∷ []
 accepted (Call.Position words) = position (rowsOf words) ∷ steps (rowsOf words) ∷ scriptLength (rowsOf words) ∷ [] leaving []
 accepted (Call.Visible words d) = flag (visible (rowsOf words) d) ∷ hider words d ∷ climbOf (rowsOf words) d .links ∷ [] leaving []
 accepted (Call.Lists words takens upcomings) =
@@ -197,6 +207,7 @@ accepted (Call.StretchCount takens upcomings δ) = natAbs δ ∷ [] leaving []
 accepted (Call.Outline words room) = length (outlineOf (tableOf words)) / 2 ∷ [] leaving put room 0 (outlineOf (tableOf words)) ∷ []
 accepted (Call.Save words room) = length (saved (tableOf words)) ∷ [] leaving put room 0 (saved (tableOf words)) ∷ []
 accepted (Call.Load words bytes) = length (loaded bytes .rows) ∷ [] leaving written words (loaded bytes) ∷ []
+accepted (Call.LoadOld words bytes) = length (oldLoaded bytes .rows) ∷ [] leaving written words (oldLoaded bytes) ∷ []
 accepted (Call.SetPlace words places d place) = [] leaving placed (freed (rowsOf words) places) d place ∷ []
 accepted (Call.AskPlace words places d) = placeWords (placeOf places d) leaving []
 accepted (Call.AskAtZoom words places d zoom) = placeWords (scaled zoom (placeOf places d)) leaving []

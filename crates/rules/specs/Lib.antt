@@ -7,6 +7,7 @@ pub mod Words
 pub mod Sound
 pub mod Asks
 pub mod Saved
+pub mod OldSaved
 pub mod Places
 pub mod Calls
 pub mod Runs

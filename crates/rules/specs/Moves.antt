@@ -5,7 +5,7 @@ use mathlib.Core.List.{List, [], _∷_, _++_, flatMap}
 use lib.Dec.{eqb}
 use lib.IntN.{ℤ, pos, negsuc}
 use lib.ListN.{length}
-use Rattle.rules.specs.Below.{earliest, latest, gather, rising}
+use Rattle.rules.specs.Below.{earliest, latest, tab, gather, rising}
 use Rattle.rules.specs.Rows.{Row, Table, none, rowAt, docAt, frameAt, parentAt, isShown, isDoc, inFrame, isFrame, place, flag, withFlags, climb}
 use Rattle.rules.specs.Steps.{same, isStep, upcoming, visible}
 
@@ -89,6 +89,27 @@ traversed t δ = record { rows = walked δ (t .rows); nextDoc = t .nextDoc; next
 -- "removal of a frame by its number: all its rows and all beneath them go, gaps close in order, the rest keeps its flags" (document 02, L1)
 abbrev pub dropped : Table → ℕ → Table
 dropped t f = record { rows = without (inFrame (t .rows) f) (t .rows); nextDoc = t .nextDoc; nextFrame = t .nextFrame }
+
+-- Row i lies in document d: its parent is d.
+abbrev pub isChild : List Row → ℕ → ℕ → Bool
+isChild rows d i = eqb (parentAt rows i) d
+
+-- "the row takes the next document number": a row, and the one row of document d, with document m; frame, parent and flag stay.
+abbrev pub named : ℕ → Row → Row
+named m r = record { doc = m; frame = r .frame; parent = r .parent; shown = r .shown }
+
+unfoldable pub renamed : ℕ → ℕ → List Row → List Row
+renamed d m rows = tab (length rows) (λ i. cond (isDoc rows d i) (named m (rowAt rows i)) (rowAt rows i))
+
+-- "replacing a visible document in its own row: everything beneath it goes, the row takes the next document number, stays shown, and upcoming steps
+-- elsewhere stay" (document 02, L7). 001's "replacing" (definition 2) is another thing: the second half of navigating.
+unfoldable pub replaced : Table → ℕ → Table
+replaced t d =
+    record {
+      rows = renamed d (t .nextDoc) (without (isChild (t .rows) d) (t .rows));
+      nextDoc = suc (t .nextDoc);
+      nextFrame = t .nextFrame;
+    }
 
 -- The frames of the record "by rising frame number".
 abbrev pub frames : Table → List ℕ

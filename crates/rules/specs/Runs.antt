@@ -11,12 +11,14 @@ pub data Move : Type 0 where
   navigates : (from : ℕ) → Move
   goes : (δ : ℤ) (room : List ℕ) → Move
   drops : (frame : ℕ) → Move
+  replaces : (d : ℕ) → Move
 
 abbrev pub on : List ℕ → Move → Call
 on words (Move.opens parent) = Call.Open words parent
 on words (Move.navigates from) = Call.Navigate words from
 on words (Move.goes δ room) = Call.Traverse words δ room
 on words (Move.drops frame) = Call.Drop words frame
+on words (Move.replaces d) = Call.Replace words d
 
 -- The words after a move, and after many.
 abbrev pub after : List ℕ → Move → List ℕ

@@ -1,5 +1,5 @@
--- "A record is sound when all hold": each rule as a proposition in document 01's words and as a test that computes (marked `?`).
-use Prim.Native.Nat.{ℕ, suc, _+_, _-_, _*_, _≤_, _<_}
+-- "A record is sound when all hold": each rule as a proposition in document 01's words (S2: 02's, L7) and as a test that computes (marked `?`).
+use Prim.Native.Nat.{ℕ, _+_, _*_, _≤_, _<_}
 use mathlib.Core.Bool.{Bool, not, _&&_, _||_, So}
 use mathlib.Core.List.{List}
 use mathlib.Core.Logic.{_⊎_}
@@ -19,13 +19,17 @@ pub record S1 (room : ℕ) (rows : List Row) : Type 0 where
 abbrev pub s1? : ℕ → List Row → Bool
 s1? room rows = leb 1 (length rows) && leb (length rows) room
 
--- "S2. Document numbers rise strictly by row; the last is below word 1."
+-- "S2 therefore changes: numbers are distinct and all below word 1, no longer rising." (document 02, L7)
 pub record S2 (rows : List Row) (nextDoc : ℕ) : Type 0 where
-  pub rise : (i : ℕ) → suc i < length rows → docAt rows i < docAt rows (suc i)
-  pub last : docAt rows (length rows - 1) < nextDoc
+  pub distinct : (i j : ℕ) → i < length rows → j < length rows → docAt rows i ≡ docAt rows j → i ≡ j
+  pub below : (i : ℕ) → i < length rows → docAt rows i < nextDoc
+
+-- Row i is the first with its document, and this is below the next number.
+abbrev pub new? : List Row → ℕ → ℕ → Bool
+new? rows nextDoc i = not (someBelow i (isDoc rows (docAt rows i))) && ltb (docAt rows i) nextDoc
 
 abbrev pub s2? : List Row → ℕ → Bool
-s2? rows nextDoc = allBelow (length rows - 1) (λ i. ltb (docAt rows i) (docAt rows (suc i))) && ltb (docAt rows (length rows - 1)) nextDoc
+s2? rows nextDoc = allBelow (length rows) (new? rows nextDoc)
 
 -- "S3. Every frame number is below word 2."
 pub record S3 (rows : List Row) (nextFrame : ℕ) : Type 0 where

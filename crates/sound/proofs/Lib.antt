@@ -1,4 +1,5 @@
 pub mod Quick
+pub mod Documents
 pub mod Passes
 pub mod Verdict
 pub mod Checks

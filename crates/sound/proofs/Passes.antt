@@ -17,7 +17,7 @@ use Rattle.rules.specs.Rows.{Row, none, docAt, frameAt, parentAt, shownAt, isSh
 use Rattle.rules.specs.Steps.{same, step, isStep}
 use Rattle.rules.specs.Moves.{rowBefore}
 use Rattle.rules.specs.Words.{capacity, rowsOf}
-use Rattle.rules.specs.Sound.{zero?, s8?}
+use Rattle.rules.specs.Sound.{s2?, zero?, s8?}
 use Rattle.laws.proofs.Words.{rows-length}
 use Rattle.reads.specs.Found.{foundBelow}
 use Rattle.reads.specs.declared.Found.{Found}
@@ -27,7 +27,7 @@ use Rattle.reads.specs.Within.{Within}
 use Rattle.reads.specs.Under.{Under}
 use Rattle.laws.proofs.Loops.{all-flag, count-more, earliest-none, latest-yes, latest-no}
 use Rattle.reads.proofs.Scans.{found-at, found-lower, found-nothing, under-more}
-use Rattle.sound.specs.Quick.{bounded, linked, comes, calm, plain, joined, rowFine, evenly}
+use Rattle.sound.specs.Quick.{bounded, linked, comes, calm, joined, rowFine, evenly, quick?}
 use Rattle.sound.specs.Pass.{Passed, Onward, StepAfter, TellsTo, Tells, upcomingOf}
 use Rattle.sound.specs.declared.Pass.{Pass}
 use Rattle.sound.specs.declared.Tested.{Tested}
@@ -51,10 +51,6 @@ module _ (rows : List Row) (i : ℕ) where
 
   pub bounded-is : (top f s : ℕ) → f ≡ frameAt rows i → s ≡ shownAt rows i → (ltb f top && leb s 1) ≡ bounded rows top i
   bounded-is top f s e g = rw (e, g) refl
-
-  pub plain-is : (top a b : ℕ) (c : Bool) → 0 < i → a ≡ docAt rows (i - 1) → b ≡ docAt rows i → c ≡ bounded rows top i → (ltb a b && c) ≡ plain rows top i
-  unfolding plain
-  plain-is top a b c l e f g = rw (ne-eqb i 0 (λ z. omega arith), e, f, g) refl
 
   bit-is : shownAt rows i ≤ 1 → shownAt rows i ≡ boolByte (isShown rows i)
   bit-is l = test (isShown rows i) (λ t. rw t (eqb-true (shownAt rows i) 1 t)) (λ f. let z : shownAt rows i ≡ 0 = omega (arith, eqb-false (shownAt rows i) 1 f) in rw f z)
@@ -254,51 +250,60 @@ module _ (rows : List Row) where
 
   -- THE VERDICT
   module _ (top : ℕ) where
-    fine-all : allBelow (length rows) (plain rows top) ≡ true → allBelow (length rows) (joined rows) ≡ true → allBelow (length rows) (rowFine rows top) ≡ true
+    fine-all : allBelow (length rows) (bounded rows top) ≡ true → allBelow (length rows) (joined rows) ≡ true → allBelow (length rows) (rowFine rows top) ≡ true
     unfolding rowFine
-    fine-all h t = all-in (rowFine rows top) (length rows) (λ k l. simp and-eq-true-iff (all-out (plain rows top) (length rows) h k l, all-out (joined rows) (length rows) t k l))
-
-    plain-bit : (i : ℕ) → So (plain rows top i) → shownAt rows i ≤ 1
-    unfolding plain
-    plain-bit i h = let u = simp and-eq-true-iff at h in leb-true _ _ (u .1 .1)
-
-    -- A row that fails ends the pass.
-    pub row-stops : (k : ℕ) → k < length rows → rowFine rows top k ≡ false → (allBelow (length rows) (rowFine rows top) && evenly rows) ≡ false
-    row-stops k l f = rw (off (allBelow (length rows) (rowFine rows top)) (λ h. clash (all-out (rowFine rows top) (length rows) h k l) f)) refl
+    fine-all h t = all-in (rowFine rows top) (length rows) (λ k l. rw (all-out (bounded rows top) (length rows) h k l, all-out (joined rows) (length rows) t k l) refl)
 
     pub root-is : (b : Bool) (u : ℕ) → b ≡ bounded rows top 0 → u ≡ parentAt rows 0 → (b && eqb u none) ≡ rowFine rows top 0
-    unfolding rowFine plain joined linked calm step someBelow
+    unfolding rowFine joined linked calm step someBelow
     root-is b u e f = rw (e, f, and-true (eqb (parentAt rows 0) none)) refl
 
-    pub root-goes : (b : Bool) → b ≡ rowFine rows top 0 → b ≡ true → (allBelow 1 (plain rows top) ≡ true) × (allBelow 1 (joined rows) ≡ true) × (shownAt rows 0 ≤ 1)
+    pub root-goes : (b : Bool) → b ≡ rowFine rows top 0 → b ≡ true → (allBelow 1 (bounded rows top) ≡ true) × (allBelow 1 (joined rows) ≡ true) × (shownAt rows 0 ≤ 1)
     unfolding rowFine allBelow
-    root-goes b e t = let u = simp and-eq-true-iff at (sym e ∙ t) in (u .0, u .1, plain-bit 0 (u .0))
+    root-goes b e t = let u = simp and-eq-true-iff at (sym e ∙ t) in (simp and-eq-true-iff (refl, (u .0 .0, u .0 .1)), u .1, leb-true _ _ (u .0 .1))
 
-    module _ (i n : ℕ) (l : i < n) (e : n ≡ length rows) (b : Bool) (g : b ≡ plain rows top i) where
-      pub pass-stops : b ≡ false → (allBelow (length rows) (rowFine rows top) && evenly rows) ≡ false
+    -- A row that keeps its bounds may be looked at further.
+    pub pass-goes : (i : ℕ) (b : Bool) (p : Pass) → b ≡ bounded rows top i → Passed rows i p → allBelow i (joined rows) ≡ true → b ≡ true → Onward rows i p
+    pass-goes i b p g s a t = let u = simp and-eq-true-iff at (sym g ∙ t) in record { passed = s; join = a; bit = leb-true _ _ (u .1) }
+
+  module _ (next top : ℕ) where
+    -- A row that fails ends the pass.
+    pub row-stops : (k : ℕ) → k < length rows → rowFine rows top k ≡ false → quick? rows next top ≡ false
+    unfolding quick?
+    row-stops k l f = rw (off (allBelow (length rows) (rowFine rows top)) (λ h. clash (all-out (rowFine rows top) (length rows) h k l) f)) refl
+
+    module _ (i n : ℕ) (l : i < n) (e : n ≡ length rows) (b : Bool) (g : b ≡ bounded rows top i) where
+      pub pass-stops : b ≡ false → quick? rows next top ≡ false
       unfolding rowFine
       pass-stops f = row-stops i (omega arith) (rw (sym g ∙ f) refl)
 
-      pub pass-breaks : joined rows i ≡ false → (allBelow (length rows) (rowFine rows top) && evenly rows) ≡ false
+      pub pass-breaks : joined rows i ≡ false → quick? rows next top ≡ false
       unfolding rowFine
-      pass-breaks f = row-stops i (omega arith) (test (plain rows top i) (λ t. rw (t, f) refl) (λ t. rw t refl))
-
-      pub pass-goes : (p : Pass) → Passed rows i p → allBelow i (joined rows) ≡ true → b ≡ true → Onward rows i p
-      pass-goes p s a t = record { passed = s; join = a; bit = plain-bit i (sym g ∙ t) }
+      pass-breaks f = row-stops i (omega arith) (test (bounded rows top i) (λ t. rw (t, f) refl) (λ t. rw t refl))
 
     -- At the end of the rows.
-    module _ (i n : ℕ) (p : Pass) (s : Passed rows i p) (h : allBelow i (plain rows top) ≡ true) (j : allBelow i (joined rows) ≡ true) (a : i ≤ n) (b : n ≤ i) (e : n ≡ length rows) where
+    module _ (i n : ℕ) (p : Pass) (s : Passed rows i p) (h : allBelow i (bounded rows top) ≡ true) (j : allBelow i (joined rows) ≡ true) (a : i ≤ n) (b : n ≤ i) (e : n ≡ length rows) where
       ends : i ≡ length rows
       ends = omega arith
 
-      pass-ends : eqb (p .shown) (p .frames) ≡ (allBelow (length rows) (rowFine rows top) && evenly rows)
-      pass-ends = rw (s .shown-are, s .frames-are, ends, fine-all (rw ends at h) (rw ends at j)) refl
+      evenly-is : evenly rows ≡ eqb (p .shown) (p .frames)
+      evenly-is = rw (s .shown-are, s .frames-are, ends) refl
 
-      pub pass-fails : (p .shown ≡ p .frames → ⊥) → (allBelow (length rows) (rowFine rows top) && evenly rows) ≡ false
-      pass-fails f = sym pass-ends ∙ ne-eqb (p .shown) (p .frames) f
+      pub pass-uneven : (p .shown ≡ p .frames → ⊥) → quick? rows next top ≡ false
+      unfolding quick?
+      pass-uneven f = rw (fine-all top (rw ends at h) (rw ends at j), evenly-is ∙ ne-eqb (p .shown) (p .frames) f) refl
 
-      pub pass-holds : p .shown ≡ p .frames → Tells rows (allBelow (length rows) (rowFine rows top) && evenly rows) (Holds p)
-      pass-holds t = (sym pass-ends ∙ eq-eqb (p .shown) (p .frames) t, subst (λ k. Passed rows k p) ends s)
+      -- What is left is S2.
+      pass-even : p .shown ≡ p .frames → quick? rows next top ≡ s2? rows next
+      unfolding quick?
+      pass-even t = rw (fine-all top (rw ends at h) (rw ends at j), evenly-is ∙ eq-eqb (p .shown) (p .frames) t) refl
+
+      module _ (even : p .shown ≡ p .frames) (v : Bool) (fit : v ≡ s2? rows next) where
+        pub pass-fails : v ≡ false → quick? rows next top ≡ false
+        pass-fails f = pass-even even ∙ sym fit ∙ f
+
+        pub pass-holds : v ≡ true → Tells rows (quick? rows next top) (Holds p)
+        pass-holds t = (pass-even even ∙ sym fit ∙ t, subst (λ k. Passed rows k p) ends s)
 
 -- THE WORDS PAST THE ROWS
 

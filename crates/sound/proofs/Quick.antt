@@ -1,5 +1,5 @@
 -- The quick test is S2 to S7. Assumes nothing.
-use Prim.Native.Nat.{ℕ, zero, suc, _-_, _≤_, _<_}
+use Prim.Native.Nat.{ℕ, zero, suc, _≤_, _<_}
 use mathlib.Core.Path.{_≡_, refl, sym, ap, _∙_}
 use mathlib.Core.List.{List}
 use mathlib.Core.Logic.{_⊎_, inl, inr, ⊎-elim}
@@ -18,10 +18,9 @@ use Rattle.laws.proofs.Tests.{test, clash, off, same-tests, by-lt, by-order, so
 use Rattle.laws.proofs.Tests.{count-zero, count-yes, count-no, count-split, one-in, one-out, least, latest-is, latest-out}
 use Rattle.laws.proofs.Frames.{step-in, first, reach-in, reach-out}
 use Rattle.laws.proofs.Central.{only-shown}
-use Rattle.laws.proofs.Tree.{rising-all}
 use Rattle.laws.proofs.Loops.{earliest-out, earliest-in}
-use Rattle.laws.proofs.Reflect.{Ref, ref-lt, ref-le, ref-eq, ref-so, ref-map, ref-and, ref-all, sound-table-is}
-use Rattle.sound.specs.Quick.{ordered, linked, comes, calm, plain, joined, rowFine, quick?}
+use Rattle.laws.proofs.Reflect.{Ref, ref-lt, ref-le, ref-eq, ref-so, ref-map, ref-and, ref-all, s2-is, sound-table-is}
+use Rattle.sound.specs.Quick.{linked, comes, calm, joined, rowFine, quick?}
 
 -- HOW MANY
 
@@ -100,18 +99,12 @@ abbrev Even : List Row → Type 0
 Even rows = count (isShown rows) (length rows) ≡ count (λ i. not (isStep rows i)) (length rows)
 
 record Fine (rows : List Row) (nextFrame i : ℕ) : Type 0 where
-  order : So (ordered rows i)
   framed : frameAt rows i < nextFrame
   bit : shownAt rows i ≤ 1
   link : So (linked rows i)
   quiet : So (calm rows i)
 
 module _ (rows : List Row) where
-  ordered-suc : (i : ℕ) → ordered rows (suc i) ≡ ltb (docAt rows i) (docAt rows (suc i))
-  ordered-suc i =
-      let e : suc i - 1 ≡ i = omega arith in
-      rw (ne-eqb (suc i) 0 (λ z. omega arith)) (ap (λ k. ltb (docAt rows k) (docAt rows (suc i))) e)
-
   -- A frame's first row: row 0 with no parent, or a row whose parent is earlier.
   abbrev Headed : ℕ → Type 0
   Headed i = ((i ≡ 0) × (parentAt rows i ≡ none)) ⊎ ((j : ℕ) × (j < i) × (docAt rows j ≡ parentAt rows i))
@@ -147,24 +140,19 @@ module _ (rows : List Row) where
   )
 
   fine-is : (nextFrame i : ℕ) → Ref (rowFine rows nextFrame i) (Fine rows nextFrame i)
-  unfolding rowFine plain joined
+  unfolding rowFine joined
   fine-is nextFrame i =
       ref-map
-      (λ h. record { order = h .0 .0; framed = h .0 .1 .0; bit = h .0 .1 .1; link = h .1 .0; quiet = h .1 .1 })
-      (λ f. ((f .order, (f .framed, f .bit)), (f .link, f .quiet)))
-      (ref-and (ref-and (ref-so (ordered rows i)) (ref-and (ref-lt (frameAt rows i) nextFrame) (ref-le (shownAt rows i) 1))) (ref-and (ref-so (linked rows i)) (ref-so (calm rows i))))
+      (λ h. record { framed = h .0 .0; bit = h .0 .1; link = h .1 .0; quiet = h .1 .1 })
+      (λ f. ((f .framed, f .bit), (f .link, f .quiet)))
+      (ref-and (ref-and (ref-lt (frameAt rows i) nextFrame) (ref-le (shownAt rows i) 1)) (ref-and (ref-so (linked rows i)) (ref-so (calm rows i))))
 
-  quick-means : (nextDoc nextFrame : ℕ) → Ref (quick? rows nextDoc nextFrame) ((((i : ℕ) → i < length rows → Fine rows nextFrame i) × (docAt rows (length rows - 1) < nextDoc)) × Even rows)
+  quick-means : (nextDoc nextFrame : ℕ) → Ref (quick? rows nextDoc nextFrame) ((((i : ℕ) → i < length rows → Fine rows nextFrame i) × Even rows) × S2 rows nextDoc)
   unfolding quick?
   quick-means nextDoc nextFrame =
-      ref-and (ref-and (ref-all (fine-is nextFrame) (length rows)) (ref-lt (docAt rows (length rows - 1)) nextDoc))
-      (ref-eq (count (isShown rows) (length rows)) (count (λ i. not (isStep rows i)) (length rows)))
+      ref-and (ref-and (ref-all (fine-is nextFrame) (length rows)) (ref-eq (count (isShown rows) (length rows)) (count (λ i. not (isStep rows i)) (length rows)))) (s2-is rows nextDoc)
 
 -- FROM THE RULES
-
-sound-ordered : (rows : List Row) {nextDoc : ℕ} → S2 rows nextDoc → (i : ℕ) → i < length rows → So (ordered rows i)
-sound-ordered rows s zero l = refl
-sound-ordered rows s (suc i) l = ordered-suc rows i ∙ lt-ltb _ _ (s .rise i l)
 
 sound-linked : (rows : List Row) → 1 ≤ length rows → S4 rows → S5 rows → (i : ℕ) → i < length rows → So (linked rows i)
 sound-linked rows some s4 s5 i l =
@@ -255,7 +243,7 @@ module _ (rows : List Row) (fine : (i : ℕ) → i < length rows → So (linked 
   quick-S4 : S4 rows
   quick-S4 = record { placed = λ i l. ⊎-elim (λ a. inl (a .1)) (λ r. inr r) (above i l) }
 
-  quick-S5 : ((i : ℕ) → suc i < length rows → docAt rows i ≡ none → ⊥) → S5 rows
+  quick-S5 : ((i : ℕ) → i < length rows → docAt rows i ≡ none → ⊥) → S5 rows
   quick-S5 proper =
       record {
         kin = λ i j a b e.
@@ -323,18 +311,18 @@ module _ (rows : List Row) (fine : (i : ℕ) → i < length rows → So (calm ro
 quick-sound : {room : ℕ} (t : Table) → S1 room (t .rows) → t .nextDoc ≤ none → So (quick? (t .rows) (t .nextDoc) (t .nextFrame)) → SoundTable room t
 quick-sound t s1 w q =
     let rows = t .rows in
-    let h = quick-means rows (t .nextDoc) (t .nextFrame) .0 q in
-    let rise : (i : ℕ) → suc i < length rows → docAt rows i < docAt rows (suc i) =
-    λ i l. ltb-true _ _ (sym (ordered-suc rows i) ∙ h .0 .0 (suc i) l .order) in
-    let links : (i : ℕ) → i < length rows → So (linked rows i) = λ i l. h .0 .0 i l .link in
-    let calms : (i : ℕ) → i < length rows → So (calm rows i) = λ i l. h .0 .0 i l .quiet in
+    let m = quick-means rows (t .nextDoc) (t .nextFrame) .0 q in
+    let h = m .0 in
+    let s2 = m .1 in
+    let links : (i : ℕ) → i < length rows → So (linked rows i) = λ i l. h .0 i l .link in
+    let calms : (i : ℕ) → i < length rows → So (calm rows i) = λ i l. h .0 i l .quiet in
     record {
       s1 = s1;
-      s2 = record { rise = rise; last = h .0 .1 };
-      s3 = record { below = λ i l. h .0 .0 i l .framed };
+      s2 = s2;
+      s3 = record { below = λ i l. h .0 i l .framed };
       s4 = quick-S4 rows links;
-      s5 = quick-S5 rows links (λ i l e. omega (arith, rising-all (length rows) (docAt rows) rise (length rows - 1) i (omega arith) (omega arith)));
-      s6 = quick-S6 rows calms (h .1) (λ i l. h .0 .0 i l .bit);
+      s5 = quick-S5 rows links (λ i l e. omega (arith, s2 .below i l));
+      s6 = quick-S6 rows calms (h .1) (λ i l. h .0 i l .bit);
       s7 = quick-S7 rows calms (h .1);
     }
 
@@ -344,15 +332,14 @@ sound-quick {t = t} s =
       (
         λ i l.
             record {
-              order = sound-ordered (t .rows) (s .s2) i l;
               framed = s .s3 .below i l;
               bit = s .s6 .bit i l;
               link = sound-linked (t .rows) (s .s1 .some) (s .s4) (s .s5) i l;
               quiet = sound-calm (t .rows) (s .s6) (s .s7) i l;
             },
-        s .s2 .last,
+        sound-even (t .rows) (s .s6) (s .s7),
       ),
-      sound-even (t .rows) (s .s6) (s .s7),
+      s .s2,
     )
 
 pub quick-is : (room : ℕ) (t : Table) → So (s1? room (t .rows)) → t .nextDoc ≤ none → quick? (t .rows) (t .nextDoc) (t .nextFrame) ≡ soundTable? room t

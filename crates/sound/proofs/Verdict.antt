@@ -1,36 +1,22 @@
 -- What the test answers, by the ways that it goes. Assumes nothing.
-use Prim.Native.Nat.{ℕ, _-_, _≤_, _<_}
-use mathlib.Core.Bool.{Bool, true, false, _&&_, and-eq-true-iff}
+use Prim.Native.Nat.{ℕ, _≤_, _<_}
+use mathlib.Core.Bool.{Bool, true, false, and-eq-true-iff}
 use mathlib.Core.List.{List}
 use mathlib.Core.Path.{_≡_, refl, sym, subst, _∙_}
 use native.Mathlib.Omega.{arith}
-use lib.Dec.{ltb}
 use lib.ListN.{length}
 use borrow.Author.Tests.{le-leb}
-use Rattle.rules.specs.Below.{allBelow}
-use Rattle.rules.specs.Rows.{Row, none, docAt}
+use Rattle.rules.specs.Rows.{Row, none}
 use Rattle.rules.specs.Words.{capacity, tableOf, rowsOf}
 use Rattle.rules.specs.Sound.{S1, s8?, soundTable?, sound?}
 use Rattle.laws.proofs.Tests.{test, off, and-true}
 use Rattle.laws.proofs.Reflect.{sound-is}
-use Rattle.sound.specs.Quick.{rowFine, evenly, quick?}
+use Rattle.sound.specs.Quick.{quick?}
 use Rattle.sound.specs.Pass.{Passed, TellsTo, Tells}
 use Rattle.sound.specs.declared.Pass.{Pass}
 use Rattle.sound.specs.declared.Tested.{Tested}
 use Rattle.sound.specs.declared.Tested.the-variants.{Fails, Holds}
 use Rattle.sound.proofs.Quick.{quick-is}
-
-module _ (rows : List Row) (nextDoc nextFrame n a b : ℕ) (named : a ≡ docAt rows (n - 1)) (all : n ≡ length rows) (next : b ≡ nextDoc) where
-  last-is : ltb a b ≡ ltb (docAt rows (length rows - 1)) nextDoc
-  last-is = rw (named, all, next) refl
-
-  pub quick-stops : ltb a b ≡ false → quick? rows nextDoc nextFrame ≡ false
-  unfolding quick?
-  quick-stops f = rw (sym last-is ∙ f) (test (allBelow (length rows) (rowFine rows nextFrame)) (λ t. rw t refl) (λ t. rw t refl))
-
-  pub quick-goes : (r : Tested) → ltb a b ≡ true → Tells rows (allBelow (length rows) (rowFine rows nextFrame) && evenly rows) r → Tells rows (quick? rows nextDoc nextFrame) r
-  unfolding quick?
-  quick-goes r t = subst (λ x. Tells rows x r) (rw (sym last-is ∙ t) (test (allBelow (length rows) (rowFine rows nextFrame)) (λ t. rw t refl) (λ t. rw t refl)))
 
 -- What was tested, by what the code found.
 module _ (rows : List Row) (i : ℕ) (b : Bool) (r : Tested) (told : TellsTo rows i b r) where

@@ -1,17 +1,14 @@
 -- The test of S2 to S7 as one pass over the rows makes it. That it is the test of the rules is `quick-is`.
-use Prim.Native.Nat.{ℕ, suc, _-_}
+use Prim.Native.Nat.{ℕ, suc, _-_, _≤_, _<_}
 use mathlib.Core.Bool.{Bool, not, _&&_, _||_, cond}
 use mathlib.Core.List.{List}
 use lib.Dec.{eqb, leb, ltb}
 use lib.ListN.{length}
-use Rattle.rules.specs.Below.{someBelow, allBelow, count}
+use Rattle.rules.specs.Below.{someBelow, allBelow, count, latest}
 use Rattle.rules.specs.Rows.{Row, none, docAt, frameAt, parentAt, shownAt, isShown, isDoc}
 use Rattle.rules.specs.Steps.{isStep}
 use Rattle.rules.specs.Moves.{rowBefore}
-
--- Documents rise from the row before to row i.
-abbrev pub ordered : List Row → ℕ → Bool
-ordered rows i = eqb i 0 || ltb (docAt rows (i - 1)) (docAt rows i)
+use Rattle.rules.specs.Sound.{s2?}
 
 -- A step has the parent of the row before it in its frame; a frame's first row has an earlier document, the record's first row none.
 unfoldable pub linked : List Row → ℕ → Bool
@@ -31,21 +28,28 @@ calm rows i = not (isStep rows i && isShown rows i && someBelow (suc i) (comes r
 abbrev pub bounded : List Row → ℕ → ℕ → Bool
 bounded rows nextFrame i = ltb (frameAt rows i) nextFrame && leb (shownAt rows i) 1
 
--- What asks no further back than the row before.
-unfoldable pub plain : List Row → ℕ → ℕ → Bool
-plain rows nextFrame i = ordered rows i && bounded rows nextFrame i
-
 -- What asks the row before in the frame, or the parent.
 unfoldable pub joined : List Row → ℕ → Bool
 joined rows i = linked rows i && calm rows i
 
 unfoldable pub rowFine : List Row → ℕ → ℕ → Bool
-rowFine rows nextFrame i = plain rows nextFrame i && joined rows i
+rowFine rows nextFrame i = bounded rows nextFrame i && joined rows i
 
 -- As many rows are shown as there are frames.
 abbrev pub evenly : List Row → Bool
 evenly rows = eqb (count (isShown rows) (length rows)) (count (λ i. not (isStep rows i)) (length rows))
 
 unfoldable pub quick? : List Row → ℕ → ℕ → Bool
-quick? rows nextDoc nextFrame =
-    allBelow (length rows) (rowFine rows nextFrame) && ltb (docAt rows (length rows - 1)) nextDoc && evenly rows
+quick? rows nextDoc nextFrame = allBelow (length rows) (rowFine rows nextFrame) && evenly rows && s2? rows nextDoc
+
+-- Documents rise from the row before to row i: where all do, S2 asks of the last alone.
+abbrev pub ordered : List Row → ℕ → Bool
+ordered rows i = eqb i 0 || ltb (docAt rows (i - 1)) (docAt rows i)
+
+-- Row i is the latest with its document.
+unfoldable pub alone : List Row → ℕ → Bool
+alone rows i = eqb (latest (isDoc rows (docAt rows i)) (length rows)) i
+
+-- The numbers of the places from i up to n are from low to high.
+abbrev pub Spans : (ℕ → ℕ) → ℕ → ℕ → ℕ → ℕ → Type 0
+Spans f i n low high = (k : ℕ) → i ≤ k → k < n → (low ≤ f k) × (f k ≤ high)

@@ -3,6 +3,10 @@
 // What bounds it, for n rows: each row looks back for the row before it in its frame and stops there, and not at all where its frame number is above every earlier one;
 // a frame's first row looks back for its parent and stops there, and not at all where that is the parent found last. So at most two triangular scans (n * n / 2 row visits
 // each); on records that the calls build both stop near the row.
+//
+// Where all documents rise, as they do until one is replaced, S2 asks nothing more than that the last is below word 1. Else a loop from the last row to the first looks, for a row
+// whose document is neither below all later ones nor above them, whether it stands in a later row: a third triangular scan at most. In a record that the calls build only
+// rows that were replaced before a later one look.
 use base::DocNo;
 use base::FrameNo;
 use base::Refusal;
@@ -10,17 +14,17 @@ use base::RowPlace;
 use reads::Found;
 use reads::NONE;
 ghost use mathlib.Core.Path.{_≡_};
-ghost use mathlib.Core.Bool.{true, false, _&&_, cond};
-ghost use Prim.Native.Nat.{_+_, _-_, _<_, _≤_};
+ghost use mathlib.Core.Bool.{true, false, cond};
+ghost use Prim.Native.Nat.{_+_, _-_, _<_, _≤_, min, max};
 ghost use lib.ListN.{length};
 ghost use Rattle.rules.specs.Below.{someBelow, allBelow};
 ghost use Rattle.rules.specs.Rows.{docAt, parentAt, shownAt, isDoc};
 ghost use Rattle.rules.specs.Steps.{isStep};
 ghost use Rattle.rules.specs.Words.{capacity, tableOf, rowsOf};
-ghost use Rattle.rules.specs.Sound.{s8?, sound?};
+ghost use Rattle.rules.specs.Sound.{s2?, s8?, sound?};
 ghost use Rattle.rules.specs.Calls.{short};
 ghost use Rattle.reads.specs.Within.{Within};
-ghost use Rattle.sound.specs.Quick.{bounded, plain, joined, rowFine, evenly, quick?};
+ghost use Rattle.sound.specs.Quick.{bounded, joined, rowFine, quick?, ordered, alone, Spans};
 ghost use Rattle.sound.specs.Pass.{Passed, Onward, StepAfter, TellsTo, Tells, upcomingOf};
 ghost use Rattle.sound.specs.Check.{checkOf};
 ghost use Rattle.sound.specs.Survey.{standOf, surveyOf};
@@ -67,13 +71,67 @@ fn is_bounded(words: &[u32], at: RowPlace, top: FrameNo) -> bool
     (reads::frame(words, at).0 < top.0) & (reads::shown(words, at) <= 1)
 }
 
-// Whether a row that is not the first is so, and its document is above that of the row before.
-fn is_plain(words: &[u32], at: RowPlace, before: DocNo, top: FrameNo) -> bool
-    requires { ⌜ Within (now words) (at .0) × (0 < at .0) × (before .0 ≡ docAt (rowsOf (now words)) (at .0 - 1)) ⌝ }
-    ensures { λ r. ⌜ r ≡ plain (rowsOf (now (words .entry))) (top .0) (at .0) ⌝ }
+// Whether a row's document stands in no later row, where theirs are from `low` to `high`: one outside needs no scan.
+fn is_alone(words: &[u32], at: RowPlace, n: usize, low: DocNo, high: DocNo) -> bool
+    requires { ⌜ Within (now words) (at .0) × (n ≡ length (rowsOf (now words))) × Spans (docAt (rowsOf (now words))) (at .0 + 1) (length (rowsOf (now words))) (low .0) (high .0) ⌝ }
+    ensures { λ r. ⌜ r ≡ alone (rowsOf (now (words .entry))) (at .0) ⌝ }
 {
-    let rises = before.0 < reads::document(words, at).0;
-    rises & is_bounded(words, at, top)
+    let d = reads::document(words, at);
+    if d.0 < low.0 {
+        return true;
+    }
+    if high.0 < d.0 {
+        return true;
+    }
+    match reads::find_below(words, RowPlace(n), d) {
+        Found::At(last) => last.0 == at.0,
+        Found::Nothing => false,
+    }
+}
+
+// The lower and the higher of two document numbers.
+fn lowest(a: DocNo, b: DocNo) -> DocNo
+    ensures { λ r. ⌜ r .0 ≡ min (a .0) (b .0) ⌝ }
+{
+    if b.0 < a.0 { b } else { a }
+}
+
+fn highest(a: DocNo, b: DocNo) -> DocNo
+    ensures { λ r. ⌜ r .0 ≡ max (a .0) (b .0) ⌝ }
+{
+    if a.0 < b.0 { b } else { a }
+}
+
+// S2, from the last row to the first.
+fn documents_apart(words: &[u32], n: usize, next: DocNo) -> bool
+    requires { ⌜ Within (now words) 0 × (n ≡ length (rowsOf (now words))) ⌝ }
+    ensures { λ r. ⌜ r ≡ s2? (rowsOf (now (words .entry))) (next .0) ⌝ }
+{
+    let mut i = n - 1;
+    let mut low = reads::document(words, RowPlace(i));
+    let mut high = low;
+    while 0 < i {
+        let at = RowPlace(i - 1);
+        if !is_alone(words, at, n, low, high) {
+            return false;
+        }
+        let d = reads::document(words, at);
+        low = lowest(low, d);
+        high = highest(high, d);
+        i -= 1;
+    }
+    high.0 < next.0
+}
+
+// S2, where `last` is the last row's document and `rises` tells whether all rise.
+fn documents_fit(words: &[u32], n: usize, rises: bool, last: DocNo, next: DocNo) -> bool
+    requires { ⌜ Within (now words) 0 × (n ≡ length (rowsOf (now words))) × (rises ≡ allBelow n (ordered (rowsOf (now words)))) × (last .0 ≡ docAt (rowsOf (now words)) (n - 1)) ⌝ }
+    ensures { λ r. ⌜ r ≡ s2? (rowsOf (now (words .entry))) (next .0) ⌝ }
+{
+    if rises {
+        return last.0 < next.0;
+    }
+    documents_apart(words, n, next)
 }
 
 // The pass at the first row.
@@ -193,29 +251,35 @@ fn is_root(words: &[u32], top: FrameNo) -> bool
     is_bounded(words, at, top) & (reads::parent(words, at).0 == NONE)
 }
 
-// Whether every row keeps the rules, and as many are shown as there are frames.
-fn rows_pass(words: &[u32], n: usize, top: FrameNo) -> Tested
+// S2 to S7: whether every row keeps the rules, as many are shown as there are frames, and the documents fit.
+fn rows_pass(words: &[u32], n: usize, top: FrameNo, next: DocNo) -> Tested
     requires { ⌜ Within (now words) 0 × (n ≡ length (rowsOf (now words))) ⌝ }
-    ensures { λ r. ⌜ Tells (rowsOf (now (words .entry))) (allBelow (length (rowsOf (now (words .entry)))) (rowFine (rowsOf (now (words .entry))) (top .0)) && evenly (rowsOf (now (words .entry)))) r ⌝ }
+    ensures { λ r. ⌜ Tells (rowsOf (now (words .entry))) (quick? (rowsOf (now (words .entry))) (next .0) (top .0)) r ⌝ }
 {
     if !is_root(words, top) {
         return Tested::Fails;
     }
     let mut p = pass_start(words);
-    let mut before = reads::document(words, RowPlace(0));
+    let mut last = reads::document(words, RowPlace(0));
+    let mut rises = true;
     let mut i = 1;
     while i < n {
-        if !is_plain(words, RowPlace(i), before, top) {
+        if !is_bounded(words, RowPlace(i), top) {
             return Tested::Fails;
         }
         let Tested::Holds(q) = pass_row(words, RowPlace(i), p) else {
             return Tested::Fails;
         };
-        before = reads::document(words, RowPlace(i));
+        let d = reads::document(words, RowPlace(i));
+        rises = rises & (last.0 < d.0);
+        last = d;
         p = q;
         i += 1;
     }
-    if p.shown == p.frames {
+    if p.shown != p.frames {
+        return Tested::Fails;
+    }
+    if documents_fit(words, n, rises, last, next) {
         Tested::Holds(p)
     } else {
         Tested::Fails
@@ -227,11 +291,12 @@ fn rows_sound(words: &[u32], n: usize) -> Tested
     requires { ⌜ Within (now words) 0 × (n ≡ length (rowsOf (now words))) ⌝ }
     ensures { λ r. ⌜ Tells (rowsOf (now (words .entry))) (quick? (rowsOf (now (words .entry))) (tableOf (now (words .entry)) .nextDoc) (tableOf (now (words .entry)) .nextFrame)) r ⌝ }
 {
-    let last = reads::document(words, RowPlace(n - 1)).0 < rows::next_document(words).0;
-    if !last {
-        return Tested::Fails;
-    }
-    rows_pass(words, n, rows::next_frame_number(words))
+    rows_pass(
+        words,
+        n,
+        rows::next_frame_number(words),
+        rows::next_document(words),
+    )
 }
 
 // S8.

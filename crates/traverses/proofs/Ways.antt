@@ -20,7 +20,6 @@ use Rattle.rules.specs.Calls.{Call, Outcome, outside, refusals, accepted, outco
 use Rattle.laws.proofs.Tests.{test}
 use Rattle.laws.proofs.Central.{flagsAt, central, at-length, at-doc, at-frame, at-at}
 use Rattle.laws.proofs.Travel.{walked-at}
-use Rattle.laws.proofs.Tree.{rising-all}
 use Rattle.laws.proofs.Words.{length-written, table-written}
 use Rattle.laws.proofs.Writes.{put-none}
 use Rattle.laws.proofs.Calls.{outcome-accepted, outcome-refused}
@@ -50,7 +49,7 @@ module _ (words : List ℕ) (s : Stand) (h : Located words s) (a b to : ℕ) (fi
       record {
         long = examined-long words (h .0);
         fits = examined-fits words (h .0);
-        rise = λ i j. rising-all (length (rowsOf words)) (docAt (rowsOf words)) (examined-sound words (h .0) .table .s2 .rise) j i;
+        apart = examined-sound words (h .0) .table .s2 .distinct;
         first = first .upto;
         second = second .upto;
       }
@@ -143,7 +142,7 @@ module _ (old : List ℕ) (a b : ℕ) (start : Start old a b) (new : List ℕ) (
       record {
         long = omega arith;
         fits = rw s (omega arith);
-        rise = λ i j l m. subst (λ doc. doc i < doc j) (sym d) (r .rise i j l (omega arith));
+        apart = λ i j l m. subst (λ doc. doc i ≡ doc j → i ≡ j) (sym d) (r .apart i j (omega arith) (omega arith));
         first = omega arith;
         second = omega arith;
       }

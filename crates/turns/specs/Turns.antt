@@ -1,6 +1,7 @@
 -- What one line of a script does: the call it asks, then Position. Its answer is in the words of document 01:
 -- "Accepted: `ok`, then the new document number (open, nav) or the count of changed frames (go), then position/steps.
--- Refused: `no`, the refusal, position/steps." "`drop F`, with the count of rows removed as its value" (document 02, L1); what 5 carries comes before the position (L4).
+-- Refused: `no`, the refusal, position/steps." "`drop F`, with the count of rows removed as its value" (document 02, L1); what 5 carries comes before the position (L4);
+-- "`replace D`, its value the new number" (L7).
 use Prim.Native.Nat.{ℕ}
 use mathlib.Core.List.{List, []}
 use mathlib.Core.Path.{_≡_}
@@ -56,6 +57,7 @@ obeyed words changes (Command.opens d) = moved (outcome (Call.Open words d)) cha
 obeyed words changes (Command.navs d) = moved (outcome (Call.Navigate words d)) changes
 obeyed words changes (Command.goes δ) = gone (outcome (Call.Traverse words δ changes))
 obeyed words changes (Command.drops f) = moved (outcome (Call.Drop words f)) changes
+obeyed words changes (Command.replaces d) = moved (outcome (Call.Replace words d)) changes
 obeyed words changes Command.bad = record { said = Said.bad; words = words; changes = changes }
 
 -- What a line does.

@@ -8,6 +8,7 @@ use lines::Command;
 use lines::Reply;
 use moves::Opened;
 use navigates::Navigated;
+use replaces::Replaced;
 use traverses::Traversed;
 ghost use mathlib.Core.Path.{_≡_};
 ghost use Rattle.base.specs.Numbers.{numberOf, carriedBy};
@@ -75,6 +76,16 @@ fn drop_line(words: &mut [u32], frame: FrameNo) -> Reply
     }
 }
 
+// `replace D`
+fn replace_line(words: &mut [u32], d: DocNo) -> Reply
+    ensures { λ r. ⌜ Leaves (outcome (Call.Replace (now (words .entry)) (d .0))) (replyIs r) (now (words .exit)) ⌝ }
+{
+    match replaces::replace(words, d) {
+        Replaced::Arrived(m) => accept(words, m.0 as usize),
+        Replaced::Refused(r) => deny(words, r),
+    }
+}
+
 // What a line does: the record and the change words are then those of the definition, and the answer too.
 pub fn turn(words: &mut [u32], changes: &mut [u32], line: &[u8]) -> Reply
     ensures { λ r. ⌜ turned (now (words .entry)) (now (changes .entry)) (now (line .entry)) ≡ record { said = replyIs r; words = now (words .exit); changes = now (changes .exit) } ⌝ }
@@ -84,6 +95,7 @@ pub fn turn(words: &mut [u32], changes: &mut [u32], line: &[u8]) -> Reply
         Command::Nav(d) => nav_line(words, d),
         Command::Go(delta) => go_line(words, changes, delta),
         Command::Drop(f) => drop_line(words, f),
+        Command::Replace(d) => replace_line(words, d),
         Command::Bad => Reply::Bad,
     }
 }

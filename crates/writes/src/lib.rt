@@ -1,4 +1,4 @@
-// Writing the record: a row, the three words before the rows, a row's flag, zeros. Each leaves every other word as it was.
+// Writing the record: a row, the three words before the rows, a row's document or flag, zeros. Each leaves every other word as it was.
 use base::DocNo;
 use base::FrameNo;
 use base::RowPlace;
@@ -19,6 +19,16 @@ pub fn put_row(words: &mut [u32], at: RowPlace, d: DocNo, f: FrameNo, up: DocNo,
     words[k + 1] = f.0;
     words[k + 2] = up.0;
     words[k + 3] = shown;
+}
+
+// Writes the document of a row.
+pub fn put_document(words: &mut [u32], at: RowPlace, d: DocNo)
+    requires { ⌜ at .0 < capacity (now words) ⌝ }
+    ensures { λ _. ⌜ now (words .exit) ≡ put (now (words .entry)) (3 + 4 * at .0) (d .0 ∷ []) ⌝ }
+{
+    let i = at.0;
+    let k = 3 + 4 * i;
+    words[k] = d.0;
 }
 
 // Writes the flag of a row.

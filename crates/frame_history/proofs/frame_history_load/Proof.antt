@@ -2,7 +2,8 @@
 use borrow.Author.Needs.{needs}
 use mathlib.Core.Path.{ap}
 use native.Mathlib.Omega.{arith}
-use Rattle.loads.specs.Answers.{loadingIs}
+use Rattle.laws.proofs.Calls.{load-is}
+use Rattle.told.specs.Answers.{loadingIs}
 use Rattle.frame_history.proofs.Bounds.{load-small}
 use Rattle.frame_history.proofs.Faces.{face-gives, face-refuses}
 use Rattle.frame_history.proofs.frame_history_load.Statement.{statement}
@@ -13,7 +14,7 @@ frame-history-load-spec =
     tie.close (tie.spec
     (λ c κs. search needs)
     (λ c. search needs)
-    (λ c. let b = load-small _ _ _ _ _ (c .before .before .before .before .before .load .ensures) (ap loadingIs (c .before .n .given .1)) in omega (arith, b))
+    (λ c. let b = load-small (load-is _ _) _ _ _ (c .before .before .before .before .before .load .ensures) (ap loadingIs (c .before .n .given .1)) in omega (arith, b))
     (λ c. search needs)
     (λ c κs. search needs)
     (λ c. search needs)

@@ -3,9 +3,9 @@ use denote.Ref.{now}
 use mathlib.Core.Path.{refl, ap, _∙_}
 use borrow.Author.Needs.{needs}
 use Rattle.lines.specs.Decimal.{numeral}
-use Rattle.lines.specs.Lines.{dropWord}
+use Rattle.lines.specs.Lines.{dropWord, replaceWord}
 use Rattle.lines.proofs.Firsts.{starts-long}
-use Rattle.lines.proofs.Commands.{to-end, other-drop, other-bad}
+use Rattle.lines.proofs.Commands.{to-end, other-drop, other-replace, other-bad}
 use Rattle.lines.proofs.other_word.Statement.{statement}
 use Rattle.lines.proofs.other_word.Tie as tie
 
@@ -14,23 +14,42 @@ other-word-spec =
     tie.close (tie.spec
     (λ c. refl)
     (λ c κs. search needs)
-    (λ c. let starts = c .before in
-    let start = starts .before .before .before in
-    starts-long dropWord (now (start .args .line)) _ (starts .starts .ensures) (c .if1 .taken))
-    (λ c. let starts = c .before in
-    let start = starts .before .before .before in
-    starts-long dropWord (now (start .args .line)) _ (starts .starts .ensures) (c .if1 .taken))
+    (λ c. let c1 = c .before in
+    let c4 = c1 .before .before .before in
+    starts-long dropWord (now (c4 .args .line)) _ (c1 .starts .ensures) (c .if1 .taken))
+    (λ c. let c1 = c .before in
+    let c4 = c1 .before .before .before in
+    starts-long dropWord (now (c4 .args .line)) _ (c1 .starts .ensures) (c .if1 .taken))
     (λ c. search needs)
     (λ c κs. search needs)
     (λ c κs. search needs)
-    (λ c. let numeral1 = c .before in
-    let then1 = numeral1 .before .before in
-    let starts = then1 .before in
-    let start = starts .before .before .before in
-    let line = now (start .args .line) in
-    let s = starts .starts .ensures in
-    let t = then1 .if1 .taken in
-    other-drop line _ s _ _ t (numeral1 .numeral .ensures ∙ ap (numeral _) (to-end line 5 (starts-long dropWord line _ s t))) (c .dropping .ensures))
-    (λ c. let starts = c .before in
-    let start = starts .before .before .before in
-    other-bad (now (start .args .line)) _ (starts .starts .ensures) (c .if1 .left)))
+    (λ c. let c1 = c .before in
+    let c3 = c1 .before .before in
+    let c4 = c3 .before in
+    let c7 = c4 .before .before .before in
+    let line = now (c7 .args .line) in
+    other-drop line _ (c4 .starts .ensures) _ _ (c3 .if1 .taken) (c1 .numeral .ensures ∙ ap (numeral _) (to-end line 5 (starts-long dropWord line _ (c4 .starts .ensures) (c3 .if1 .taken)))) (c .dropping .ensures))
+    (λ c. refl)
+    (λ c κs. search needs)
+    (λ c. let c1 = c .before in
+    let c7 = c1 .before .before .before .before .before .before in
+    starts-long replaceWord (now (c7 .args .line)) _ (c1 .starts2 .ensures) (c .if2 .taken))
+    (λ c. let c1 = c .before in
+    let c7 = c1 .before .before .before .before .before .before in
+    starts-long replaceWord (now (c7 .args .line)) _ (c1 .starts2 .ensures) (c .if2 .taken))
+    (λ c. search needs)
+    (λ c κs. search needs)
+    (λ c κs. search needs)
+    (λ c. let c1 = c .before in
+    let c3 = c1 .before .before in
+    let c4 = c3 .before in
+    let c6 = c4 .before .before in
+    let c7 = c6 .before in
+    let c10 = c7 .before .before .before in
+    let line = now (c10 .args .line) in
+    other-replace line _ (c7 .starts .ensures) (c6 .if1 .left) _ (c4 .starts2 .ensures) _ _ (c3 .if2 .taken) (c1 .numeral2 .ensures ∙ ap (numeral _) (to-end line 8 (starts-long replaceWord line _ (c4 .starts2 .ensures) (c3 .if2 .taken)))) (c .replacement .ensures))
+    (λ c. let c1 = c .before in
+    let c3 = c1 .before .before in
+    let c4 = c3 .before in
+    let c7 = c4 .before .before .before in
+    other-bad (now (c7 .args .line)) _ (c4 .starts .ensures) (c3 .if1 .left) _ (c1 .starts2 .ensures) (c .if2 .left)))

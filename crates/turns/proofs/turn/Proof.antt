@@ -22,6 +22,8 @@ turn-spec =
     (λ c. search needs)
     (λ c κs. search needs)
     (λ c. search needs)
+    (λ c κs. search needs)
+    (λ c. search needs)
     (λ c. search needs)
     (λ c. let c2 = c .before .before in
     let c5 = c2 .before .before .before in
@@ -52,6 +54,13 @@ turn-spec =
     let c11 = c7 .before .before .before .before in
     turned-by (now (c11 .args .words)) (now (c11 .args .changes)) (now (c11 .args .line))
     (c7 .parse .result) _ _ (c7 .parse .ensures) (ap commandIs (c5 .f .given .1)) (c2 .drop-line .ensures (now (c11 .args .changes))))
+    (λ c. search needs)
+    (λ c. let c2 = c .before .before in
+    let c5 = c2 .before .before .before in
+    let c7 = c5 .before .before in
+    let c11 = c7 .before .before .before .before in
+    turned-by (now (c11 .args .words)) (now (c11 .args .changes)) (now (c11 .args .line))
+    (c7 .parse .result) _ _ (c7 .parse .ensures) (ap commandIs (c5 .d2 .given .1)) (c2 .replace-line .ensures (now (c11 .args .changes))))
     (λ c. let c2 = c .before .before in
     let c6 = c2 .before .before .before .before in
     turned-by (now (c6 .args .words)) (now (c6 .args .changes)) (now (c6 .args .line))

@@ -1,0 +1,11 @@
+pub mod Spots
+pub mod Ordered
+pub mod Cells
+pub mod Settled
+pub mod Resaved
+pub mod Merging
+pub mod Written
+pub mod Checking
+pub mod Placing
+pub mod Judging
+pub mod Sizing

@@ -1,0 +1,2 @@
+pub mod Genuine
+pub mod Shapes

@@ -1,0 +1,16 @@
+-- `numerals::put_line` meets its contract. Assumes nothing.
+use native.Mathlib.Omega.{arith}
+use borrow.Author.Needs.{needs}
+use Rattle.laws.proofs.Writes.{wrote-then}
+use Rattle.numerals.proofs.put_line.Statement.{statement}
+use Rattle.numerals.proofs.put_line.Tie as tie
+
+pub put-line-spec : {M : Type 1} → statement M
+put-line-spec =
+    tie.close (tie.spec
+    (λ c κs. search needs)
+    (λ c κs. search needs)
+    (λ c κs. search needs)
+    (λ c κs. search needs)
+    (λ c. search needs)
+    (λ c. (search wrote-then, omega arith)))

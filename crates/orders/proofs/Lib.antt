@@ -1,0 +1,4 @@
+pub mod Linking
+pub mod Order
+pub mod Looking
+pub mod Writing
