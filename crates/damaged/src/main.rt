@@ -1,7 +1,10 @@
-// Saved bytes, whole and damaged, loaded: what the loading calls answer, and whether a refused record reads as before.
+// Saved bytes, whole and damaged, loaded: what the loading calls answer, and whether a refused record reads as before. And the bytes themselves, byte by byte: of a record, in both
+// forms; of one with a document replaced; and of what was loaded from these, saved again.
 //
 // The bytes are those of document 01's record X: 4 frames, next numbers 6 and 4; frames (number, parent, documents, shown place) from byte 12 on, (0, none, 1, 0), (1, 0, 2, 0),
 // (2, 1, 2, 1), (3, 0, 1, 0); then from byte 76 on documents, each with its row place, which is the same number: 0; 1, 5; 2, 4; 3. In the old form there are only the documents.
+use base::DocNo;
+use replaces::Replaced;
 use saved::Saving;
 use told::Loading;
 ghost use Prim.Native.Nat.{_<_};
@@ -17,6 +20,17 @@ fn say(text: &[u8]) {
 // Writes a number.
 fn say_number(n: u64) {
     io::print_decimal(1, n);
+}
+
+// Writes bytes, each as a number.
+fn say_bytes(bytes: &[u8]) {
+    let mut i = 0;
+    while i < bytes.len() {
+        say(b" ");
+        say_number(bytes[i] as u64);
+        i += 1;
+    }
+    say(b"\n");
 }
 
 // Document 01's record X.
@@ -67,24 +81,47 @@ struct Form {
     old: bool,
 }
 
-// X as saved.
-fn saved_x() -> Form {
+// A record as saved.
+fn saved_of(name: &[u8], words: &[u32]) -> Form {
     let mut bytes = [0u8; 125];
     let mut len = 0;
-    match saved::save(&record_x(), &mut bytes) {
+    say(name);
+    match saved::save(words, &mut bytes) {
         Saving::Length(n) => {
-            say(b"X has ");
+            say(b" has ");
             say_number(n as u64);
             say(b" bytes\n");
             len = n;
         }
-        Saving::Refused(_) => say(b"X is refused\n"),
+        Saving::Refused(_) => say(b" is refused\n"),
     }
     Form {
         bytes,
         len,
         old: false,
     }
+}
+
+// Tells the bytes of a form.
+fn tell(f: Form) {
+    let bytes = f.bytes;
+    if f.len <= bytes.len() {
+        say_bytes(&bytes[0..f.len]);
+    }
+}
+
+// X with document 1 replaced, as saved.
+fn saved_renewed() -> Form {
+    let mut words = record_x();
+    match replaces::replace(&mut words, DocNo(1)) {
+        Replaced::Arrived(d) => {
+            say(b"document 1 replaced by ");
+            say_number(d.0 as u64);
+            say(b"\n");
+        }
+        Replaced::Refused(_) => say(b"document 1 not replaced\n"),
+    }
+    saved_of(b"X with document 1 replaced", &words)
 }
 
 // Where byte k of the old form stands in the new one: the contents are the same, and of each entry the document comes first.
@@ -284,14 +321,30 @@ fn other(name: &[u8], f: Form) {
     load_first(name, !f.old, &mut words, &bytes, f.len);
 }
 
+// Loads bytes, saves the record that they tell, and tells the bytes.
+fn again(f: Form) {
+    let bytes = f.bytes;
+    let mut words = [7u32; 35];
+    load_first(b"loaded", f.old, &mut words, &bytes, f.len);
+    tell(saved_of(b"what was loaded", &words));
+}
+
 fn main() {
-    let whole = saved_x();
+    let whole = saved_of(b"X", &record_x());
+    tell(whole);
+    again(whole);
     either(whole);
     entries(whole);
     other(b"to the old form's call", whole);
     say(b"The old form\n");
     let old = old_x(whole);
+    tell(old);
+    again(old);
     either(old);
     documents(old);
     other(b"to the new form's call", old);
+    let renewed = saved_renewed();
+    tell(renewed);
+    again(renewed);
+    other(b"to the old form's call", renewed);
 }
