@@ -22,15 +22,25 @@ fn say_number(n: u64) {
     io::print_decimal(1, n);
 }
 
+// Writes a space and a byte as a number.
+fn say_byte(x: u8) {
+    say(b" ");
+    say_number(x as u64);
+}
+
+// Ends a line.
+fn end_line() {
+    say(b"\n");
+}
+
 // Writes bytes, each as a number.
 fn say_bytes(bytes: &[u8]) {
     let mut i = 0;
     while i < bytes.len() {
-        say(b" ");
-        say_number(bytes[i] as u64);
+        say_byte(bytes[i]);
         i += 1;
     }
-    say(b"\n");
+    end_line();
 }
 
 // Document 01's record X.
@@ -102,12 +112,17 @@ fn saved_of(name: &[u8], words: &[u32]) -> Form {
     }
 }
 
+// Writes the first n bytes, where there are so many.
+fn say_first(bytes: &[u8], n: usize) {
+    if n <= bytes.len() {
+        say_bytes(&bytes[0..n]);
+    }
+}
+
 // Tells the bytes of a form.
 fn tell(f: Form) {
     let bytes = f.bytes;
-    if f.len <= bytes.len() {
-        say_bytes(&bytes[0..f.len]);
-    }
+    say_first(&bytes, f.len);
 }
 
 // X with document 1 replaced, as saved.
