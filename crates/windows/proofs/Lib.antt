@@ -7,6 +7,7 @@ pub mod Window
 pub mod Parts
 pub mod Flagged
 pub mod Without
+pub mod Extracted
 pub mod Added
 pub mod Opened
 pub mod Navigated
