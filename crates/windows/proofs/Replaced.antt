@@ -75,23 +75,24 @@ module _ (t : Table) (s : WideRows (t .rows) (t .nextDoc) (t .nextFrame)) (unuse
       let w = s .tree .word in
       window-renamed d (t .nextDoc) bared bared-tree (omega arith) (bare t d (s .tree)) v ∙ ap (renamed d (t .nextDoc)) (children-here v)
 
-  -- Where the document is of another window, the rows stay.
-  pub replaced-there : (i : ℕ) → i < length rows → docAt rows i ≡ d → (v : ℕ) → v ≢ rootAt rows i → windowRows v (replaced t d .rows) ≡ windowRows v rows
-  unfolding replaced
-  replaced-there i l e v ne =
-      let w = s .tree .word in
-      window-renamed d (t .nextDoc) bared bared-tree (omega arith) (bare t d (s .tree)) v
-      ∙ ap (renamed d (t .nextDoc)) (without-there rows (s .tree) v (isChild rows d) (λ k m u.
-      ne-eqb (parentAt rows k) d (λ q. ne (sym (eqb-true _ _ u) ∙ root-up rows (s .tree) i k (parent-earlier (s .tree) i k l m (e ∙ sym q)) m (e ∙ sym q)))))
-      ∙ not-here
-    where
-      -- No row of that window has the document.
-      not-here : renamed d (t .nextDoc) (windowRows v rows) ≡ windowRows v rows
-      unfolding renamed
-      not-here =
-          sym (tab-is _ (windowRows v rows) (length (windowRows v rows)) noRow refl (λ k m.
-          let c = window-came rows (s .tree) v k m in
-          rw (ne-eqb (docAt (windowRows v rows) k) d (λ q. ne (sym (eqb-true _ _ (c .2)) ∙ ap (rootAt rows) (s .tree .distinct (c .0) i (c .1) l (sym (c .4 .d) ∙ q ∙ sym e))))) refl))
+  -- Where the document is of another window, no row has it, and the rows stay.
+  module _ (i : ℕ) (l : i < length rows) (e : docAt rows i ≡ d) (v : ℕ) (ne : v ≢ rootAt rows i) where
+    not-here : renamed d (t .nextDoc) (windowRows v rows) ≡ windowRows v rows
+    unfolding renamed
+    not-here =
+        let own = windowRows v rows in
+        sym (tab-is (λ i. cond (isDoc own d i) (named (t .nextDoc) (rowAt own i)) (rowAt own i)) own (length own) noRow refl (λ k m.
+        let c = window-came rows (s .tree) v k m in
+        rw (ne-eqb (docAt own k) d (λ q. ne (sym (eqb-true _ _ (c .2)) ∙ ap (rootAt rows) (s .tree .distinct (c .0) i (c .1) l (sym (c .4 .d) ∙ q ∙ sym e))))) refl))
+
+    pub replaced-there : windowRows v (replaced t d .rows) ≡ windowRows v rows
+    unfolding replaced
+    replaced-there =
+        let w = s .tree .word in
+        window-renamed d (t .nextDoc) bared bared-tree (omega arith) (bare t d (s .tree)) v
+        ∙ ap (renamed d (t .nextDoc)) (without-there rows (s .tree) v (isChild rows d) (λ k m u.
+        ne-eqb (parentAt rows k) d (λ q. ne (sym (eqb-true _ _ u) ∙ root-up rows (s .tree) i k (parent-earlier (s .tree) i k l m (e ∙ sym q)) m (e ∙ sym q)))))
+        ∙ not-here
 
   pub replaced-wide : WideRows (replaced t d .rows) (suc (t .nextDoc)) (t .nextFrame)
   unfolding replaced
