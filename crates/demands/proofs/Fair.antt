@@ -107,7 +107,7 @@ module _ (Out : Type 0) (p n : ℕ) (t : Table) (s : SoundRows (t .rows) (t .nex
         let a = steady-bare in
         let w = s .tree .word in
         let left : t .nextDoc < none = omega arith in
-        steady-then a (steady-renamed Out p n (without under (t .rows)) (a .enough) (a .closed) d (t .nextDoc) (children-removed t d s .sound .tree) left (bare t d s) late next (λ e h. old e (a .noted e h)))
+        steady-then a (steady-renamed Out p n (without under (t .rows)) (a .enough) (a .closed) d (t .nextDoc) (children-removed t d s .sound .tree) left (bare t d (s .tree)) late next (λ e h. old e (a .noted e h)))
 
 -- What is asked of a move, for it to be steady.
 pub record Fair (Out : Type 0) (p n : ℕ) (words : List ℕ) (m : Move) : Type 0 where

@@ -43,7 +43,7 @@ long words s = let a = s .table .s1 .some in let b = s .table .s1 .fits in omega
 
 -- Rows as sound as a table's, in its room.
 fill : {room : ℕ} {t : Table} → SoundRows (t .rows) (t .nextDoc) (t .nextFrame) → 1 ≤ length (t .rows) → length (t .rows) ≤ room → SoundTable room t
-fill s a b = sound-of (record { some = a; fits = b }) (s .tree) (s .s6) (s .s7)
+fill s a b = sound-of (record { some = a; fits = b }) (s .tree) (s .root) (s .s6) (s .s7)
 
 -- What an accepted move leaves is lasting.
 module _ (words : List ℕ) (wide : Words32 words) (s : Sound words) where
@@ -85,7 +85,7 @@ module _ (words : List ℕ) (wide : Words32 words) (s : Sound words) where
       let a = s .table .s1 .some in
       let b = s .table .s1 .fits in
       record {
-        sound = fill (subst (λ l. SoundRows l (t .nextDoc) (t .nextFrame)) (sym (r .rows-are)) (sound-at (r .to) (t .rows) (rows .tree))) (omega arith) (omega arith);
+        sound = fill (subst (λ l. SoundRows l (t .nextDoc) (t .nextFrame)) (sym (r .rows-are)) (sound-at (r .to) (t .rows) (rows .tree) (rows .root))) (omega arith) (omega arith);
         doc = lasting words wide s .doc;
         frame = lasting words wide s .frame;
       }

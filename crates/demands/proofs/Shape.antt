@@ -113,6 +113,6 @@ module _ (rows : List Row) {a b : ℕ} (s : SoundRows rows a b) where
         no-parent (o .0) (o .1) z',
         (o .0, o .1, refl, t .1),
         λ e root a.
-            let f = s .tree .root (a .0) (o .0) (a .1) (o .1) (root-row e root (a .0) (a .1) (a .2)) z' in
+            let f = s .root (a .0) (o .0) (a .1) (o .1) (root-row e root (a .0) (a .1) (a .2)) z' in
             sym (a .2) ∙ ap (docAt rows) (only-shown rows (s .s6) (s .s7) (a .0) (o .0) (a .1) (o .1) (sym f) (a .3) (t .1)),
       )

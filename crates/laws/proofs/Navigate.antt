@@ -18,7 +18,7 @@ use Rattle.laws.proofs.Flags.{flags-length, flags-eq}
 use Rattle.laws.proofs.Central.{flagsAt, central, at-S6, at-S7, position-steps, only-shown, show-at, forward-at}
 use Rattle.laws.proofs.Append.{step-agree, length-snoc, snoc-old, snoc-new, flags-append, append-at}
 use Rattle.laws.proofs.Kept.{kept-row, kept-length}
-use Rattle.laws.proofs.Tree.{TreeOf, distinct, proper, place-is, alike, tree-flags, tree-add}
+use Rattle.laws.proofs.Tree.{TreeOf, OneRoot, distinct, proper, place-is, alike, tree-flags, one-flags, tree-add, one-add}
 use Rattle.laws.proofs.Climb.{visible-out, sees-out}
 use Rattle.laws.proofs.Removal.{SoundRows, stays, cleared-removed, cleared-position, cleared-steps, visible-stays}
 
@@ -36,8 +36,9 @@ unfolding navigated hide
 navigated-length t d = length-snoc (hide d (cleared (t .rows))) _ ∙ ap suc (flags-length _ (cleared (t .rows)))
 
 -- Rows at any position are as sound as they were.
-pub sound-at : (p : ℕ) (rows : List Row) {a b : ℕ} → TreeOf rows a b → SoundRows (flagsAt p rows) a b
-sound-at p rows t = record { tree = tree-at p rows t; s6 = at-S6 p rows; s7 = at-S7 p rows }
+pub sound-at : (p : ℕ) (rows : List Row) {a b : ℕ} → TreeOf rows a b → OneRoot rows → SoundRows (flagsAt p rows) a b
+unfolding flagsAt
+sound-at p rows t one = record { tree = tree-at p rows t; root = one-flags _ rows one; s6 = at-S6 p rows; s7 = at-S7 p rows }
 
 module _ (t : Table) (s : SoundRows (t .rows) (t .nextDoc) (t .nextFrame)) (unused : t .nextDoc ≢ none) where
   abbrev rows : List Row
@@ -72,8 +73,8 @@ module _ (t : Table) (s : SoundRows (t .rows) (t .nextDoc) (t .nextFrame)) (unus
         let e : flagsAt (position rows) (rows ++ child ∷ []) ≡ rows ++ child ∷ [] = opened-at (position rows) (position-steps rows) ∙ ap (λ l. l ++ child ∷ []) now in
         subst (λ l. SoundRows l (suc (t .nextDoc)) (suc (t .nextFrame))) e (sound-at (position rows) (rows ++ child ∷ [])
         (tree-add rows child (s .tree) (omega arith) (omega arith) refl (omega arith) (inr (v .0, v .1, v .2))
-        (λ i l f. absurd (omega (arith, s .tree .framed i l)))
-        (λ i l f z. absurd (proper (s .tree) (v .0) (v .1) (v .2 ∙ z)))))
+        (λ i l f. absurd (omega (arith, s .tree .framed i l))))
+        (one-add rows child (s .root) (λ i l f z. absurd (proper (s .tree) (v .0) (v .1) (v .2 ∙ z)))))
 
   -- NAVIGATE
 
@@ -172,11 +173,12 @@ module _ (t : Table) (s : SoundRows (t .rows) (t .nextDoc) (t .nextFrame)) (unus
     pub navigated-sound : SoundRows (navigated t d .rows) (suc (t .nextDoc)) (t .nextFrame)
     navigated-sound =
         let k = stayed in
-        let tr = cleared-removed rows s .sound .tree in
+        let sc = cleared-removed rows s .sound in
+        let tr = sc .tree in
         let u = s .tree .word in
         let a = alike {l = c} {m = rows} {i = k .0} {k = place rows d} (k .2) in
         subst (λ l. SoundRows l (suc (t .nextDoc)) (t .nextFrame)) (sym navigated-at) (sound-at (suc (position rows)) (c ++ arrival ∷ [])
         (tree-add c arrival tr (omega arith) (omega arith) refl (subst (λ n. n < t .nextFrame) (a .f) (tr .framed (k .0) (k .1)))
         (⊎-elim (λ e. inl (sym (a .p) ∙ e)) (λ r. inr (r .0, omega arith, r .2 ∙ a .p)) (tr .placed (k .0) (k .1)))
-        (λ i l e. tr .kin i (k .0) l (k .1) (e ∙ sym (a .f)) ∙ a .p)
-        (λ i l e g. tr .root i (k .0) l (k .1) e (a .p ∙ g) ∙ a .f)))
+        (λ i l e. tr .kin i (k .0) l (k .1) (e ∙ sym (a .f)) ∙ a .p))
+        (one-add c arrival (sc .root) (λ i l e g. sc .root i (k .0) l (k .1) e (a .p ∙ g) ∙ a .f)))

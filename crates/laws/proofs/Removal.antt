@@ -17,17 +17,18 @@ use Rattle.laws.proofs.Tests.{test, clash, off, same-tests, count-same}
 use Rattle.laws.proofs.Frames.{due, due-in, due-out, step-in, step-out, reach-out, last-out, shows}
 use Rattle.laws.proofs.Central.{flagsAt, reached-is, at-shown, at-doc, at-parent}
 use Rattle.laws.proofs.Kept.{Whole, removed-steps, kept-position, kept-falls, kept-S6, kept-S7}
-use Rattle.laws.proofs.Tree.{TreeOf, tree-of, distinct, proper, parent-earlier, tree-kept}
+use Rattle.laws.proofs.Tree.{TreeOf, OneRoot, tree-of, distinct, proper, parent-earlier, tree-kept, one-kept}
 use Rattle.laws.proofs.Climb.{gone-self, gone-child, gone-cases, visible-out}
 
--- What S2 to S7 say of the rows.
+-- What S2 to S7 say of the rows of one window.
 pub record SoundRows (rows : List Row) (nextDoc nextFrame : ℕ) : Type 0 where
   pub tree : TreeOf rows nextDoc nextFrame
+  pub root : OneRoot rows
   pub s6 : S6 rows
   pub s7 : S7 rows
 
 pub sound-rows : {room : ℕ} {t : Table} → SoundTable room t → t .nextDoc ≤ none → SoundRows (t .rows) (t .nextDoc) (t .nextFrame)
-sound-rows s w = record { tree = tree-of s w; s6 = s .s6; s7 = s .s7 }
+sound-rows s w = record { tree = tree-of s w; root = s .s5 .root; s6 = s .s6; s7 = s .s7 }
 
 abbrev pub stays : (ℕ → Bool) → List Row → ℕ → Bool
 stays q rows i = not (gone q rows i)
@@ -74,6 +75,7 @@ module _ (rows : List Row) {a b : ℕ} (s : SoundRows rows a b) where
       record {
         sound = record {
           tree = tree-kept (stays q rows) rows (s .tree) (stays-up q rows (s .tree));
+          root = one-kept (stays q rows) rows (s .tree) (stays-up q rows (s .tree)) (s .root);
           s6 = kept-S6 (stays q rows) rows (s .s6) (s .s7) w;
           s7 = kept-S7 (stays q rows) rows (s .s6) (s .s7) w;
         };

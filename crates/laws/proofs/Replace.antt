@@ -16,7 +16,7 @@ use Rattle.rules.specs.Sound.{S6, S7}
 use Rattle.laws.proofs.Tests.{test, clash, by-lt, count-in, count-all, length-tab, tab-at}
 use Rattle.laws.proofs.Frames.{OneEach, Later, positionOf}
 use Rattle.laws.proofs.Kept.{Whole, kept-row, kept-length, kept-step, kept-reached}
-use Rattle.laws.proofs.Tree.{Tree, TreeOf, parent-earlier, came}
+use Rattle.laws.proofs.Tree.{Tree, TreeOf, OneRoot, OneRootIn, parent-earlier, came}
 use Rattle.laws.proofs.Climb.{gone-self}
 use Rattle.laws.proofs.Reflect.{record-is}
 use Rattle.laws.proofs.Removal.{SoundRows, stays, stays-in, stays-up, stays-whole, gone-later, Together, Removed, removed}
@@ -58,7 +58,7 @@ module _ (d m : ℕ) (rows : List Row) where
   pub renamed-doc : (i : ℕ) → i < length rows → docAt (renamed d m rows) i ≡ cond (isDoc rows d i) m (docAt rows i)
   renamed-doc i l = ap (λ r. r .doc) (renamed-row i l) ∙ test (isDoc rows d i) (λ t. rw t refl) (λ f. rw f refl)
 
-  -- What depends on frames and flags alone.
+  -- What depends on frames, flags and parents alone.
   pub renamed-S6 : S6 rows → S6 (renamed d m rows)
   renamed-S6 s =
       record {
@@ -68,6 +68,9 @@ module _ (d m : ℕ) (rows : List Row) where
 
   pub renamed-S7 : S7 rows → S7 (renamed d m rows)
   renamed-S7 s = record { later = subst₃ Later (sym renamed-length) (sym renamed-frame) (sym renamed-marks) (s .later) }
+
+  pub renamed-one : OneRoot rows → OneRoot (renamed d m rows)
+  renamed-one one = subst₃ OneRootIn (sym renamed-length) (sym renamed-frame) (sym renamed-parent) one
 
   pub renamed-position : position (renamed d m rows) ≡ position rows
   unfolding position
@@ -98,7 +101,6 @@ module _ (d m : ℕ) (rows : List Row) where
               ⊎-elim (λ e. inl e) (λ r.
               inr (r .0, r .1, renamed-doc (r .0) (omega arith) ∙ rw (ne-eqb (docAt rows (r .0)) d (λ e. bare i l (sym (r .2) ∙ e))) (r .2))) (t .placed i l);
           kin = t .kin;
-          root = t .root;
         })
 
 -- REPLACE
@@ -131,6 +133,13 @@ module _ (t : Table) (d : ℕ) where
   unfolding replaced without
   replaced-length = renamed-length d (t .nextDoc) bared ∙ kept-length keep rows
 
+  -- In what is left nothing lies in d.
+  pub bare : {a b : ℕ} → TreeOf rows a b → (i : ℕ) → i < length bared → parentAt bared i ≡ d → ⊥
+  unfolding without
+  bare tree i l e =
+      let u = came keep rows tree (stays-up (isChild rows d) rows tree) i l in
+      clash (gone-self (isChild rows d) rows (u .0) (eq-eqb _ _ (sym (u .4 .p) ∙ e))) (not-true _ (u .2))
+
   module _ (s : SoundRows (t .rows) (t .nextDoc) (t .nextFrame)) where
     -- What lies in d goes with its whole frames.
     pub children-together : (p : ℕ) → Together (isChild rows d) rows p
@@ -139,13 +148,6 @@ module _ (t : Table) (d : ℕ) where
     pub children-removed : Removed (isChild rows d) rows (t .nextDoc) (t .nextFrame)
     children-removed = removed rows s (isChild rows d) (children-together (position rows))
 
-    -- In what is left nothing lies in d.
-    pub bare : (i : ℕ) → i < length bared → parentAt bared i ≡ d → ⊥
-    unfolding without
-    bare i l e =
-        let u = came keep rows (s .tree) (stays-up (isChild rows d) rows (s .tree)) i l in
-        clash (gone-self (isChild rows d) rows (u .0) (eq-eqb _ _ (sym (u .4 .p) ∙ e))) (not-true _ (u .2))
-
     -- The rows left are sound.
     pub replaced-sound : t .nextDoc ≢ none → SoundRows (replaced t d .rows) (replaced t d .nextDoc) (replaced t d .nextFrame)
     unfolding replaced
@@ -153,7 +155,8 @@ module _ (t : Table) (d : ℕ) where
         let r = children-removed .sound in
         let w = s .tree .word in
         record {
-          tree = tree-renamed d (t .nextDoc) bared (r .tree) (omega arith) bare;
+          tree = tree-renamed d (t .nextDoc) bared (r .tree) (omega arith) (bare (s .tree));
+          root = renamed-one d (t .nextDoc) bared (r .root);
           s6 = renamed-S6 d (t .nextDoc) bared (r .s6);
           s7 = renamed-S7 d (t .nextDoc) bared (r .s7);
         }

@@ -1,6 +1,6 @@
 -- S2 to S5 as one record over functions: what a change of the rows has to keep. Assumes nothing.
 use Prim.Native.Nat.{ℕ, zero, suc, _-_, _≤_, _<_}
-use mathlib.Core.Path.{_≡_, sym, ap, _∙_, subst, subst₂}
+use mathlib.Core.Path.{_≡_, sym, ap, _∙_, subst, subst₂, subst₃}
 use mathlib.Core.List.{List, [], _∷_, _++_}
 use mathlib.Core.Logic.{_⊎_, inl, inr, ⊎-elim}
 use mathlib.Core.Bool.{Bool, So}
@@ -30,10 +30,16 @@ pub record Tree (n : ℕ) (doc frame parent : ℕ → ℕ) (nextDoc nextFrame : 
   pub framed : (i : ℕ) → i < n → frame i < nextFrame
   pub placed : (i : ℕ) → i < n → (parent i ≡ none) ⊎ ((j : ℕ) × (j < i) × (doc j ≡ parent i))
   pub kin : (i j : ℕ) → i < n → j < n → frame i ≡ frame j → parent i ≡ parent j
-  pub root : (i j : ℕ) → i < n → j < n → parent i ≡ none → parent j ≡ none → frame i ≡ frame j
 
 abbrev pub TreeOf : List Row → ℕ → ℕ → Type 0
 TreeOf rows = Tree (length rows) (docAt rows) (frameAt rows) (parentAt rows)
+
+-- "All rows without a parent are one frame", as those of one window are.
+abbrev pub OneRootIn : ℕ → (ℕ → ℕ) → (ℕ → ℕ) → Type 0
+OneRootIn n frame parent = (i j : ℕ) → i < n → j < n → parent i ≡ none → parent j ≡ none → frame i ≡ frame j
+
+abbrev pub OneRoot : List Row → Type 0
+OneRoot rows = OneRootIn (length rows) (frameAt rows) (parentAt rows)
 
 module _ {n : ℕ} {doc frame parent : ℕ → ℕ} {a b : ℕ} (t : Tree n doc frame parent a b) where
   -- So it is in a tree, and none is no document.
@@ -99,17 +105,16 @@ tree-of {t = t} s w =
       framed = s .s3 .below;
       placed = s .s4 .placed;
       kin = s .s5 .kin;
-      root = s .s5 .root;
     }
 
-pub sound-of : {room : ℕ} {t : Table} → S1 room (t .rows) → TreeOf (t .rows) (t .nextDoc) (t .nextFrame) → S6 (t .rows) → S7 (t .rows) → SoundTable room t
-sound-of {t = t} s1 tree s6 s7 =
+pub sound-of : {room : ℕ} {t : Table} → S1 room (t .rows) → TreeOf (t .rows) (t .nextDoc) (t .nextFrame) → OneRoot (t .rows) → S6 (t .rows) → S7 (t .rows) → SoundTable room t
+sound-of {t = t} s1 tree root s6 s7 =
     record {
       s1 = s1;
       s2 = record { distinct = tree .distinct; below = tree .below };
       s3 = record { below = tree .framed };
       s4 = record { placed = tree .placed };
-      s5 = record { kin = tree .kin; root = tree .root };
+      s5 = record { kin = tree .kin; root = root };
       s6 = s6;
       s7 = s7;
     }
@@ -120,6 +125,9 @@ pub tree-flags : (f : ℕ → Bool) (rows : List Row) {a b : ℕ} → TreeOf row
 tree-flags f rows {a} {b} t =
     subst₂ (λ n doc. Tree n doc (frameAt (withFlags f rows)) (parentAt (withFlags f rows)) a b) (sym (flags-length f rows)) (sym (flags-doc f rows))
     (subst₂ (λ fr par. Tree (length rows) (docAt rows) fr par a b) (sym (flags-frame f rows)) (sym (flags-parent f rows)) t)
+
+pub one-flags : (f : ℕ → Bool) (rows : List Row) → OneRoot rows → OneRoot (withFlags f rows)
+one-flags f rows one = subst₃ OneRootIn (sym (flags-length f rows)) (sym (flags-frame f rows)) (sym (flags-parent f rows)) one
 
 -- The fields of two equal rows.
 pub record Alike (l : List Row) (i : ℕ) (m : List Row) (k : ℕ) : Type 0 where
@@ -160,17 +168,16 @@ module _ (keep : ℕ → Bool) (rows : List Row) {a b : ℕ} (t : TreeOf rows a 
             let u = came i l in
             let v = came j m in
             u .4 .p ∙ t .kin (u .0) (v .0) (u .1) (v .1) (sym (u .4 .f) ∙ e ∙ v .4 .f) ∙ sym (v .4 .p);
-        root = λ i j l m e f.
-            let u = came i l in
-            let v = came j m in
-            u .4 .f ∙ t .root (u .0) (v .0) (u .1) (v .1) (sym (u .4 .p) ∙ e) (sym (v .4 .p) ∙ f) ∙ sym (v .4 .f);
       }
 
--- A row more, with the next number: of a frame whose rows have its parent, or of a new frame.
-module _ (rows : List Row) (r : Row) {a b c : ℕ} (t : TreeOf rows a b) (more : b ≤ c) (left : a < none) (named : r .doc ≡ a) (framed : r .frame < c)
-    (up : (r .parent ≡ none) ⊎ ((j : ℕ) × (j < length rows) × (docAt rows j ≡ r .parent)))
-    (kin : (i : ℕ) → i < length rows → frameAt rows i ≡ r .frame → parentAt rows i ≡ r .parent)
-    (top : (i : ℕ) → i < length rows → parentAt rows i ≡ none → r .parent ≡ none → frameAt rows i ≡ r .frame) where
+  pub one-kept : OneRoot rows → OneRoot (kept keep rows)
+  one-kept one i j l m e f =
+      let u = came i l in
+      let v = came j m in
+      u .4 .f ∙ one (u .0) (v .0) (u .1) (v .1) (sym (u .4 .p) ∙ e) (sym (v .4 .p) ∙ f) ∙ sym (v .4 .f)
+
+-- A row more.
+module _ (rows : List Row) (r : Row) where
   abbrev all : List Row
   all = rows ++ r ∷ []
 
@@ -183,42 +190,49 @@ module _ (rows : List Row) (r : Row) {a b c : ℕ} (t : TreeOf rows a b) (more :
   by-place {ℓ} : {C : Type ℓ} (i : ℕ) → i < length all → ((l : i < length rows) → Alike all i rows i → C) → (i ≡ length rows → Alike all i (r ∷ []) 0 → C) → C
   by-place i l f g = ⊎-elim (λ e. g e (new i e)) (λ m. f m (old i m)) (below-cases (subst (λ n. i < n) (length-snoc rows r) l))
 
-  -- The next number is no document yet.
-  used : (i : ℕ) → i < length rows → docAt rows i ≡ r .doc → ⊥
-  used i l e = omega (arith, t .below i l)
+  -- A root row more is of the root frame.
+  pub one-add : OneRoot rows → ((i : ℕ) → i < length rows → parentAt rows i ≡ none → r .parent ≡ none → frameAt rows i ≡ r .frame) → OneRoot all
+  one-add one top i j l m h k =
+      by-place i l
+      (λ x e. by-place j m
+      (λ y f. e .f ∙ one i j x y (sym (e .p) ∙ h) (sym (f .p) ∙ k) ∙ sym (f .f))
+      (λ y f. e .f ∙ top i x (sym (e .p) ∙ h) (sym (f .p) ∙ k) ∙ sym (f .f)))
+      (λ x e. by-place j m
+      (λ y f. e .f ∙ sym (top j y (sym (f .p) ∙ k) (sym (e .p) ∙ h)) ∙ sym (f .f))
+      (λ y f. e .f ∙ sym (f .f)))
 
-  pub tree-add : TreeOf all (suc a) c
-  tree-add =
-      record {
-        distinct = λ i j l m h.
-            by-place i l
-            (λ x e. by-place j m
-            (λ y f. t .distinct i j x y (sym (e .d) ∙ h ∙ f .d))
-            (λ y f. absurd (used i x (sym (e .d) ∙ h ∙ f .d))))
-            (λ x e. by-place j m
-            (λ y f. absurd (used j y (sym (f .d) ∙ sym h ∙ e .d)))
-            (λ y f. x ∙ sym y));
-        below = λ i l. by-place i l (λ x e. rw (e .d) (let y = t .below i x in omega arith)) (λ x e. rw (e .d, named) (omega arith));
-        word = left;
-        framed = λ i l. by-place i l (λ x e. rw (e .f) (let y = t .framed i x in omega arith)) (λ x e. rw (e .f) framed);
-        placed = λ i l.
-            by-place i l
-            (λ x e. ⊎-elim (λ u. inl (e .p ∙ u)) (λ u. inr (u .0, u .1, old (u .0) (omega arith) .d ∙ u .2 ∙ sym (e .p))) (t .placed i x))
-            (λ x e. ⊎-elim (λ u. inl (e .p ∙ u)) (λ u. inr (u .0, omega arith, old (u .0) (u .1) .d ∙ u .2 ∙ sym (e .p))) up);
-        kin = λ i j l m h.
-            by-place i l
-            (λ x e. by-place j m
-            (λ y f. e .p ∙ t .kin i j x y (sym (e .f) ∙ h ∙ f .f) ∙ sym (f .p))
-            (λ y f. e .p ∙ kin i x (sym (e .f) ∙ h ∙ f .f) ∙ sym (f .p)))
-            (λ x e. by-place j m
-            (λ y f. e .p ∙ sym (kin j y (sym (f .f) ∙ sym h ∙ e .f)) ∙ sym (f .p))
-            (λ y f. e .p ∙ sym (f .p)));
-        root = λ i j l m h k.
-            by-place i l
-            (λ x e. by-place j m
-            (λ y f. e .f ∙ t .root i j x y (sym (e .p) ∙ h) (sym (f .p) ∙ k) ∙ sym (f .f))
-            (λ y f. e .f ∙ top i x (sym (e .p) ∙ h) (sym (f .p) ∙ k) ∙ sym (f .f)))
-            (λ x e. by-place j m
-            (λ y f. e .f ∙ sym (top j y (sym (f .p) ∙ k) (sym (e .p) ∙ h)) ∙ sym (f .f))
-            (λ y f. e .f ∙ sym (f .f)));
-      }
+  -- With the next number: of a frame whose rows have its parent, or of a new frame.
+  module _ {a b c : ℕ} (t : TreeOf rows a b) (more : b ≤ c) (left : a < none) (named : r .doc ≡ a) (framed : r .frame < c)
+      (up : (r .parent ≡ none) ⊎ ((j : ℕ) × (j < length rows) × (docAt rows j ≡ r .parent)))
+      (kin : (i : ℕ) → i < length rows → frameAt rows i ≡ r .frame → parentAt rows i ≡ r .parent) where
+    -- The next number is no document yet.
+    used : (i : ℕ) → i < length rows → docAt rows i ≡ r .doc → ⊥
+    used i l e = omega (arith, t .below i l)
+
+    pub tree-add : TreeOf all (suc a) c
+    tree-add =
+        record {
+          distinct = λ i j l m h.
+              by-place i l
+              (λ x e. by-place j m
+              (λ y f. t .distinct i j x y (sym (e .d) ∙ h ∙ f .d))
+              (λ y f. absurd (used i x (sym (e .d) ∙ h ∙ f .d))))
+              (λ x e. by-place j m
+              (λ y f. absurd (used j y (sym (f .d) ∙ sym h ∙ e .d)))
+              (λ y f. x ∙ sym y));
+          below = λ i l. by-place i l (λ x e. rw (e .d) (let y = t .below i x in omega arith)) (λ x e. rw (e .d, named) (omega arith));
+          word = left;
+          framed = λ i l. by-place i l (λ x e. rw (e .f) (let y = t .framed i x in omega arith)) (λ x e. rw (e .f) framed);
+          placed = λ i l.
+              by-place i l
+              (λ x e. ⊎-elim (λ u. inl (e .p ∙ u)) (λ u. inr (u .0, u .1, old (u .0) (omega arith) .d ∙ u .2 ∙ sym (e .p))) (t .placed i x))
+              (λ x e. ⊎-elim (λ u. inl (e .p ∙ u)) (λ u. inr (u .0, omega arith, old (u .0) (u .1) .d ∙ u .2 ∙ sym (e .p))) up);
+          kin = λ i j l m h.
+              by-place i l
+              (λ x e. by-place j m
+              (λ y f. e .p ∙ t .kin i j x y (sym (e .f) ∙ h ∙ f .f) ∙ sym (f .p))
+              (λ y f. e .p ∙ kin i x (sym (e .f) ∙ h ∙ f .f) ∙ sym (f .p)))
+              (λ x e. by-place j m
+              (λ y f. e .p ∙ sym (kin j y (sym (f .f) ∙ sym h ∙ e .f)) ∙ sym (f .p))
+              (λ y f. e .p ∙ sym (f .p)));
+        }
