@@ -70,14 +70,15 @@ module _ (rows : List Row) {a b : ℕ} (s : WideRows rows a b) (r f i : ℕ) (l 
       let k = shown-row own-rows (window-sound rows s r .s6) f (count (inWindow r rows) (j .0)) p (ap (λ y. y .frame) x ∙ j .2) in
       let c = window-came rows (s .tree) r (k .0) (k .1) in
       let sh : So (isShown rows (c .0)) = ap (λ y. eqb (y .shown) 1) (sym (ap (λ i. rowAt own-rows i) (sym (c .3)) ∙ window-row rows r (c .0) (c .1) (c .2))) ∙ k .3 in
-      let q = only (c .0) (j .0) (c .1) (j .1) (sym (c .4 .f) ∙ k .2) (j .2) sh (j .3) in
-      (k .4 ∙ c .4 .d ∙ ap (docAt rows) q ∙ sym (j .4),
-      ap (λ d. visible own-rows d) (j .4) ∙ same-tests
-      (λ v. sees-back rows (s .tree) r (docAt rows (j .0)) v .0)
-      (λ v.
-      let z = sees-out rows (docAt rows (j .0)) v in
-      window-sees rows (s .tree) r (docAt rows (j .0)) (j .0) (j .1) refl w (subst (λ i. So (visibleAt rows i)) (distinct (s .tree) (z .0) (j .0) (z .1) (j .1) (z .2)) (z .3)))
-      ∙ ap (λ d. visible rows d) (sym (j .4)))
+      let q = only (c .0) (j .0) (c .1) (j .1) (sym (c .4 .f) ∙ k .2) (j .2) sh (j .3) in (
+        k .4 ∙ c .4 .d ∙ ap (docAt rows) q ∙ sym (j .4),
+        ap (λ d. visible own-rows d) (j .4) ∙ same-tests
+            (λ v. sees-back rows (s .tree) r (docAt rows (j .0)) v .0)
+            (λ v.
+            let z = sees-out rows (docAt rows (j .0)) v in
+            window-sees rows (s .tree) r (docAt rows (j .0)) (j .0) (j .1) refl w (subst (λ i. So (visibleAt rows i)) (distinct (s .tree) (z .0) (j .0) (z .1) (j .1) (z .2)) (z .3)))
+            ∙ ap (λ d. visible rows d) (sym (j .4)),
+      )
     where
       only : (m n : ℕ) → m < length rows → n < length rows → frameAt rows m ≡ f → frameAt rows n ≡ f → So (isShown rows m) → So (isShown rows n) → m ≡ n
       only m n x y p q u v =
