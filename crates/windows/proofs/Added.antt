@@ -1,18 +1,18 @@
 -- A row appended to a table comes to its window and no other. Assumes nothing.
-use Prim.Native.Nat.{ℕ, zero, suc, _≤_, _<_}
-use mathlib.Core.Path.{_≡_, refl, sym, ap, ap₂, _∙_, subst}
+use Prim.Native.Nat.{ℕ, _<_}
+use mathlib.Core.Path.{_≡_, sym, ap, ap₂, _∙_}
 use mathlib.Core.List.{List, [], _∷_, _++_}
 use mathlib.Core.Bool.{false, So, cond}
 use native.Mathlib.Omega.{arith}
 use lib.Dec.{eqb}
 use lib.ListN.{length}
 use Rattle.rules.specs.Below.{count, gather}
-use Rattle.rules.specs.Rows.{Row, none, rowAt, docAt, parentAt, isShown, place}
+use Rattle.rules.specs.Rows.{Row, none, rowAt, docAt, place}
 use Rattle.rules.specs.Steps.{Hider, isNobody, Climb, ended, further, lost, climbAt, hiderAt, visibleAt, visible}
 use Rattle.laws.proofs.Append.{length-snoc, snoc-old, snoc-new}
 use Rattle.laws.proofs.Kept.{kept, kept-row}
 use Rattle.laws.proofs.Tree.{TreeOf, place-is, alike}
-use Rattle.laws.proofs.Climb.{sees-in, sees-out}
+use Rattle.laws.proofs.Climb.{sees-in}
 use Rattle.windows.specs.Windows.{rootAt, inWindow, windowRows}
 use Rattle.windows.proofs.Along.{along}
 use Rattle.windows.proofs.Roots.{root-top, root-up, root-same}

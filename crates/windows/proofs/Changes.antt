@@ -1,23 +1,22 @@
 -- Change rows of a window's traversal are those of the table: "one is written for each frame whose shown document differs between start and end". Assumes nothing.
-use Prim.Native.Nat.{ℕ, suc, _≤_, _<_}
-use mathlib.Core.Bool.{Bool, true, false, _&&_, So, cond, and-eq-true-iff}
-use mathlib.Core.List.{List, [], _∷_, flatMap}
-use mathlib.Core.Logic.{_≢_}
-use mathlib.Core.Path.{_≡_, refl, sym, ap, ap₂, _∙_, subst}
+use Prim.Native.Nat.{ℕ, _<_}
+use mathlib.Core.Bool.{Bool, false, _&&_, So, cond, and-eq-true-iff}
+use mathlib.Core.List.{List, [], flatMap}
+use mathlib.Core.Path.{_≡_, refl, sym, ap, _∙_, subst}
 use native.Mathlib.Omega.{arith}
 use lib.Dec.{eqb}
 use lib.IntN.{ℤ, pos, _+ℤ_}
 use lib.ListN.{length}
 use borrow.Author.Tests.{eqb-true, eqb-false, eq-eqb}
-use Rattle.rules.specs.Below.{count, latest}
-use Rattle.rules.specs.Rows.{Row, Table, rowAt, docAt, frameAt, isShown, inFrame, isFrame, flag}
+use Rattle.rules.specs.Below.{count}
+use Rattle.rules.specs.Rows.{Row, Table, rowAt, docAt, frameAt, isShown, inFrame, isFrame}
 use Rattle.rules.specs.Steps.{position, steps, visible, visibleAt}
 use Rattle.rules.specs.Moves.{frames, walked, shownDoc, changeRow, changes}
 use Rattle.rules.specs.Sound.{S6}
 use Rattle.rules.specs.Calls.{outside}
-use Rattle.laws.proofs.Tests.{test, same-tests, clash, off, some-in, some-out, count-in, one-out, latest-is}
+use Rattle.laws.proofs.Tests.{test, same-tests, clash, off, some-in, some-out, one-out, latest-is}
 use Rattle.laws.proofs.Flags.{flags-length, flags-frame}
-use Rattle.laws.proofs.Tree.{TreeOf, distinct}
+use Rattle.laws.proofs.Tree.{distinct}
 use Rattle.laws.proofs.Climb.{sees-out}
 use Rattle.windows.specs.Windows.{rootAt, inWindow, windowRows, windowOf, reflagged, traversedIn}
 use Rattle.windows.proofs.Roots.{root-flags}

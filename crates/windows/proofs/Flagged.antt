@@ -1,6 +1,6 @@
 -- Other flags in one window: traversal of a window is the traversal of its rows and leaves all else. Assumes nothing.
 use Prim.Native.Nat.{ℕ, _≤_, _<_}
-use mathlib.Core.Path.{_≡_, refl, sym, ap, ap₂, _∙_, subst}
+use mathlib.Core.Path.{_≡_, refl, sym, ap, _∙_, subst}
 use mathlib.Core.List.{List}
 use mathlib.Core.Logic.{_≢_}
 use mathlib.Core.Bool.{Bool, false, So, cond}
@@ -8,20 +8,19 @@ use native.Mathlib.Omega.{arith}
 use lib.Dec.{eqb}
 use lib.IntN.{ℤ, pos, _+ℤ_}
 use lib.ListN.{length}
-use borrow.Author.Tests.{eqb-true, eqb-false, eq-eqb, ne-eqb}
-use Rattle.rules.specs.Below.{count, gather}
-use Rattle.rules.specs.Rows.{Row, Table, none, noRow, rowAt, shownAt, isShown, marked, flag, withFlags}
+use borrow.Author.Tests.{eqb-true, ne-eqb}
+use Rattle.rules.specs.Below.{count}
+use Rattle.rules.specs.Rows.{Row, Table, rowAt, shownAt, isShown, withFlags}
 use Rattle.rules.specs.Steps.{position, steps}
 use Rattle.rules.specs.Moves.{walked, traversed}
 use Rattle.rules.specs.Sound.{S6, S7}
 use Rattle.rules.specs.Calls.{outside}
-use Rattle.laws.proofs.Tests.{count-all, gather-from}
+use Rattle.laws.proofs.Tests.{count-all}
 use Rattle.laws.proofs.Flags.{flags-length, flags-row, flags-same, flags-eq}
 use Rattle.laws.proofs.Central.{flagsAt, at-shown, at-S6, at-S7}
 use Rattle.laws.proofs.Travel.{walked-at}
 use Rattle.laws.proofs.Tree.{TreeOf, OneRoot, tree-flags}
-use Rattle.laws.proofs.Removal.{SoundRows}
-use Rattle.windows.specs.Windows.{rootAt, inWindow, windowRows, windowOf, reflagged, traversedIn}
+use Rattle.windows.specs.Windows.{rootAt, inWindow, windowRows, reflagged, traversedIn}
 use Rattle.windows.proofs.Roots.{root-flags, root-one}
 use Rattle.windows.proofs.Wholes.{gather-same, kept-flags}
 use Rattle.windows.proofs.Window.{WideRows, window-row, window-sound, window-all}

@@ -1,8 +1,8 @@
 -- What a window's questions and traversals answer depends on its rows alone, not on other windows and not on the next numbers. Assumes nothing.
 use Prim.Native.Nat.{ℕ, _≤_, _<_}
-use mathlib.Core.Bool.{false, So}
+use mathlib.Core.Bool.{false}
 use mathlib.Core.List.{List, flatMap}
-use mathlib.Core.Path.{_≡_, refl, sym, ap, ap₂, _∙_, subst}
+use mathlib.Core.Path.{_≡_, sym, ap, _∙_, subst}
 use native.Mathlib.Omega.{arith}
 use lib.IntN.{ℤ, pos, _+ℤ_}
 use lib.ListN.{length}
@@ -10,13 +10,12 @@ use borrow.Author.Tests.{eqb-true}
 use Rattle.rules.specs.Below.{rising}
 use Rattle.rules.specs.Rows.{Row, Table, none, frameAt, inFrame, isFrame}
 use Rattle.rules.specs.Steps.{position, steps}
-use Rattle.rules.specs.Moves.{frames, walked, changeRow, changes}
+use Rattle.rules.specs.Moves.{walked, changeRow, changes}
 use Rattle.rules.specs.Asks.{takenList, upcomingList, outlineFrame, outlineOf}
 use Rattle.rules.specs.Calls.{outside}
 use Rattle.laws.proofs.Tests.{off, by-lt, some-out, gather-flat}
-use Rattle.laws.proofs.Tree.{TreeOf}
 use Rattle.windows.specs.Windows.{windowRows, windowOf, traversedIn}
-use Rattle.windows.proofs.Window.{WideRows, window-sound, window-tree}
+use Rattle.windows.proofs.Window.{WideRows, window-tree}
 use Rattle.windows.proofs.Flagged.{traversed-here}
 
 -- The frames of rows, whatever the next frame number above them.

@@ -1,5 +1,5 @@
 -- Navigating is navigating in the window, and leaves the others; it keeps a table sound. Assumes nothing.
-use Prim.Native.Nat.{ℕ, suc, _≤_, _<_}
+use Prim.Native.Nat.{ℕ, suc, _<_}
 use mathlib.Core.Path.{_≡_, refl, sym, ap, ap₂, _∙_, subst}
 use mathlib.Core.List.{List, [], _∷_, _++_}
 use mathlib.Core.Logic.{_≢_, inl, inr, ⊎-elim}
@@ -14,13 +14,13 @@ use Rattle.rules.specs.Steps.{upcoming, position, visibleAt, visible}
 use Rattle.rules.specs.Moves.{without, cleared, hide, navigated}
 use Rattle.rules.specs.Sound.{S6, S7}
 use Rattle.laws.proofs.Tests.{count-in}
-use Rattle.laws.proofs.Flags.{flags-length, flags-row, flags-doc, flags-frame, flags-parent}
-use Rattle.laws.proofs.Central.{flagsAt, central}
+use Rattle.laws.proofs.Flags.{flags-length, flags-frame, flags-parent}
+use Rattle.laws.proofs.Central.{central}
 use Rattle.laws.proofs.Append.{length-snoc, snoc-old, snoc-new}
 use Rattle.laws.proofs.Kept.{kept-length, kept-row}
 use Rattle.laws.proofs.Tree.{TreeOf, distinct, place-is, Alike, alike, tree-flags, tree-add}
 use Rattle.laws.proofs.Climb.{sees-out}
-use Rattle.laws.proofs.Removal.{SoundRows, stays, stays-up, visible-stays}
+use Rattle.laws.proofs.Removal.{stays, stays-up, visible-stays}
 use Rattle.laws.proofs.Navigate.{navigated-sound}
 use Rattle.windows.specs.Windows.{rootAt, inWindow, windowRows, windowOf, upcomingIn, clearedIn, navigatedIn}
 use Rattle.windows.proofs.Roots.{root-frame, root-along, root-flags}

@@ -1,29 +1,26 @@
 -- Opening a frame is opening it in its window; opening a window leaves the others. Both keep a table sound. Assumes nothing.
-use Prim.Native.Nat.{ℕ, suc, _≤_, _<_}
-use mathlib.Core.Path.{_≡_, refl, sym, ap, ap₂, _∙_, subst}
+use Prim.Native.Nat.{ℕ, suc, _<_}
+use mathlib.Core.Path.{_≡_, refl, sym, ap, _∙_, subst}
 use mathlib.Core.List.{List, [], _∷_, _++_}
 use mathlib.Core.Logic.{_≢_, inl, inr}
-use mathlib.Core.Bool.{Bool, true, false, not, So}
+use mathlib.Core.Bool.{false, So}
 use native.Mathlib.Omega.{arith}
-use lib.Dec.{eqb}
 use lib.ListN.{length}
-use borrow.Author.Tests.{eqb-true, eq-eqb, ne-eqb}
+use borrow.Author.Tests.{eq-eqb, ne-eqb}
 use Rattle.rules.specs.Below.{someBelow, gather, tab}
-use Rattle.rules.specs.Rows.{Row, Table, none, rowAt, docAt, frameAt, parentAt, place, marked, withFlags}
-use Rattle.rules.specs.Steps.{step, isStep, steps, visible}
+use Rattle.rules.specs.Rows.{Row, Table, none, rowAt, place, withFlags}
+use Rattle.rules.specs.Steps.{step, visible}
 use Rattle.rules.specs.Moves.{opened}
 use Rattle.rules.specs.Sound.{S6, S7}
 use Rattle.laws.proofs.Tests.{gather-flat}
 use Rattle.laws.proofs.Central.{flagsAt, at-S6, at-S7}
-use Rattle.laws.proofs.Append.{append-at, length-snoc}
+use Rattle.laws.proofs.Append.{append-at}
 use Rattle.laws.proofs.Tree.{TreeOf, place-is, tree-add}
 use Rattle.laws.proofs.Climb.{sees-out}
-use Rattle.laws.proofs.Removal.{SoundRows}
 use Rattle.laws.proofs.Navigate.{opened-sound}
 use Rattle.windows.specs.Windows.{rootAt, inWindow, windowRows, windowOf, tabbed}
 use Rattle.windows.proofs.Roots.{root-row}
-use Rattle.windows.proofs.Wholes.{kept-all}
-use Rattle.windows.proofs.Window.{WideRows, window-is, window-sound, window-length}
+use Rattle.windows.proofs.Window.{WideRows, window-sound}
 use Rattle.windows.proofs.Parts.{one-window}
 use Rattle.windows.proofs.Added.{root-new, root-new-top, snoc-in, snoc-out, window-sees}
 

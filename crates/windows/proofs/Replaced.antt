@@ -1,20 +1,18 @@
 -- A document replaced in the table is replaced in its window, and no other changes. Assumes nothing.
-use Prim.Native.Nat.{ℕ, zero, suc, _≤_, _<_}
+use Prim.Native.Nat.{ℕ, zero, suc, _<_}
 use mathlib.Core.Path.{_≡_, refl, sym, ap, _∙_, subst}
 use mathlib.Core.List.{List}
 use mathlib.Core.Logic.{_≢_, ⊎-elim}
-use mathlib.Core.Bool.{So, cond}
+use mathlib.Core.Bool.{cond}
 use native.Mathlib.Nat.{not-suc-le-zero}
 use native.Mathlib.Omega.{arith}
 use lib.Dec.{eqb}
 use lib.ListN.{length}
-use borrow.Author.Tests.{eqb-true, eq-eqb, ne-eqb}
-use Rattle.rules.specs.Below.{count, gather}
-use Rattle.rules.specs.Rows.{Row, Table, none, noRow, rowAt, docAt, frameAt, parentAt, isDoc}
+use borrow.Author.Tests.{eqb-true, ne-eqb}
+use Rattle.rules.specs.Rows.{Row, Table, none, noRow, rowAt, docAt, parentAt, isDoc}
 use Rattle.rules.specs.Moves.{without, isChild, named, renamed, replaced}
 use Rattle.rules.specs.Sound.{S6, S7}
 use Rattle.laws.proofs.Tests.{tab-is}
-use Rattle.laws.proofs.Kept.{kept}
 use Rattle.laws.proofs.Tree.{TreeOf, parent-earlier}
 use Rattle.laws.proofs.Replace.{renamed-length, renamed-frame, renamed-parent, renamed-doc, tree-renamed, bare, replaced-sound}
 use Rattle.windows.specs.Windows.{rootAt, inWindow, windowRows, windowOf}

@@ -8,7 +8,7 @@ use lib.Dec.{eqb}
 use lib.ListN.{length, getD}
 use borrow.Author.Tests.{eqb-true}
 use Rattle.rules.specs.Below.{count, tab, gather}
-use Rattle.rules.specs.Rows.{Row, noRow, rowAt, frameAt, shownAt, isShown, marked, withFlags}
+use Rattle.rules.specs.Rows.{Row, noRow, rowAt, frameAt, isShown, marked, withFlags}
 use Rattle.rules.specs.Steps.{same, reach}
 use Rattle.rules.specs.Sound.{S6}
 use Rattle.laws.proofs.Tests.{same-tests, count-in, count-mono, count-same, count-order, nth, length-tab, tab-at, tab-is, length-gather, gather-at, gather-is, gather-from}

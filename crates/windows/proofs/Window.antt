@@ -1,17 +1,17 @@
 -- A window's rows are a record by themselves: sound where the table is, with the table's own steps. Assumes nothing.
-use Prim.Native.Nat.{ℕ, zero, suc, _≤_, _<_}
+use Prim.Native.Nat.{ℕ, _<_}
 use mathlib.Core.Path.{_≡_, refl, sym, ap, ap₂, _∙_, subst}
 use mathlib.Core.List.{List}
-use mathlib.Core.Bool.{Bool, not, _&&_, So, and-eq-true-iff}
+use mathlib.Core.Bool.{not, _&&_, So}
 use native.Mathlib.Omega.{arith}
 use lib.Dec.{eqb}
 use lib.ListN.{length}
 use borrow.Author.Tests.{eqb-true, eq-eqb}
 use Rattle.rules.specs.Below.{count}
-use Rattle.rules.specs.Rows.{Row, none, noRow, rowAt, docAt, frameAt, parentAt, isShown}
+use Rattle.rules.specs.Rows.{Row, none, rowAt, docAt, frameAt, parentAt, isShown}
 use Rattle.rules.specs.Steps.{isStep, reached, taken, upcoming, position, steps}
 use Rattle.rules.specs.Sound.{S6, S7}
-use Rattle.laws.proofs.Tests.{by-lt, count-in, count-mono, count-same, count-all, nth}
+use Rattle.laws.proofs.Tests.{by-lt, count-in, count-mono, count-all}
 use Rattle.laws.proofs.Kept.{count-kept, step-kept, kept, kept-length, kept-row, kept-frames}
 use Rattle.laws.proofs.Tree.{TreeOf, OneRoot, Alike, alike, tree-kept, came}
 use Rattle.laws.proofs.Removal.{SoundRows}

@@ -1,24 +1,22 @@
 -- Removal in a table: what is left of a window is what removal leaves of its rows. Assumes nothing.
-use Prim.Native.Nat.{ℕ, zero, suc, _≤_, _<_}
-use mathlib.Core.Path.{_≡_, refl, sym, ap, ap₂, _∙_, subst}
+use Prim.Native.Nat.{ℕ, suc, _<_}
+use mathlib.Core.Path.{_≡_, refl, sym, ap, _∙_, subst}
 use mathlib.Core.List.{List}
 use mathlib.Core.Logic.{_≢_}
 use mathlib.Core.Bool.{Bool, true, false, not, _&&_, _||_, So}
-use native.Mathlib.Nat.{not-suc-le-zero}
 use native.Mathlib.Omega.{arith}
 use lib.Dec.{eqb}
 use lib.ListN.{length}
-use borrow.Author.Tests.{eqb-true, ne-eqb, not-true}
+use borrow.Author.Tests.{eqb-true, ne-eqb}
 use Rattle.rules.specs.Below.{count}
-use Rattle.rules.specs.Rows.{Row, rowAt, docAt, frameAt, parentAt}
+use Rattle.rules.specs.Rows.{Row, rowAt, docAt, parentAt}
 use Rattle.rules.specs.Steps.{upcoming}
 use Rattle.rules.specs.Moves.{gone, without, cleared}
 use Rattle.rules.specs.Sound.{S6, S7}
 use Rattle.laws.proofs.Tests.{clash, off, count-all}
 use Rattle.laws.proofs.Kept.{kept, kept-row}
 use Rattle.laws.proofs.Tree.{TreeOf, Alike, alike, tree-kept}
-use Rattle.laws.proofs.Climb.{gone-cases}
-use Rattle.laws.proofs.Removal.{SoundRows, stays, stays-up, gone-later, Removed, cleared-removed}
+use Rattle.laws.proofs.Removal.{stays, stays-up, gone-later, cleared-removed}
 use Rattle.windows.specs.Windows.{rootAt, inWindow, windowRows, upcomingIn, clearedIn}
 use Rattle.windows.proofs.Along.{along}
 use Rattle.windows.proofs.Roots.{root-along}

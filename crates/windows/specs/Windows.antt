@@ -1,16 +1,15 @@
 -- Several windows in one table: "a window is a root frame with all beneath it".
-use Prim.Native.Nat.{ℕ, suc, _≤_, _<_}
-use mathlib.Core.Bool.{Bool, not, _&&_, _||_, So, cond}
+use Prim.Native.Nat.{ℕ, suc, _<_}
+use mathlib.Core.Bool.{Bool, _&&_, So, cond}
 use mathlib.Core.List.{List, [], _∷_, _++_}
 use mathlib.Core.Path.{_≡_}
-use lib.Dec.{eqb, ltb}
+use lib.Dec.{eqb}
 use lib.IntN.{ℤ}
 use lib.ListN.{length}
-use Rattle.rules.specs.Below.{someBelow, allBelow, count, gather}
+use Rattle.rules.specs.Below.{someBelow, count, gather}
 use Rattle.rules.specs.Rows.{Row, Table, none, rowAt, frameAt, parentAt, isShown, inFrame, place, withFlags, climb}
-use Rattle.rules.specs.Steps.{isStep, upcoming, position, steps}
-use Rattle.rules.specs.Moves.{without, hide, walked, changes}
-use Rattle.rules.specs.Asks.{outlineOf}
+use Rattle.rules.specs.Steps.{isStep, upcoming}
+use Rattle.rules.specs.Moves.{without, hide, walked}
 
 -- The root frame above row k: its own where it has no parent, else that above its parent's row.
 abbrev pub rootAsk : List Row → (ℕ → ℕ) → ℕ → ℕ
