@@ -5,11 +5,17 @@
    evening the history is saved, and loaded again as another desk would; and one that was saved before replacing came is loaded by its own
    call and saved in the new form.
 
+   At another desk a customer card pops up beside the main window, in the same table. Each window goes its own way and has a Back of its own: going
+   back in one leaves the documents of the other where they are, and what is ahead in one stays while the other goes on.
+
    Link with libframe_history.a, which `rt staticlib frame_history` writes. */
 #include "frame_history.h"
 #include <stdio.h>
 
 enum { ROWS = 8, WORDS = 3 + 4 * ROWS, BYTES = 12 + 24 * ROWS, ENTRIES = 3 };
+
+/* The main window, by its root frame. */
+enum { MAIN = 0 };
 
 /* What a call returned that should not have been refused. */
 static int refused(const char *call, uint32_t number) {
@@ -17,10 +23,10 @@ static int refused(const char *call, uint32_t number) {
   return number != 0;
 }
 
-/* Where the window stands. */
-static void stands(const uint32_t *words) {
+/* Where a window stands. */
+static void stands(const uint32_t *words, uint32_t root) {
   uint32_t position, steps, length;
-  if (!refused("position", frame_history_position(words, WORDS, &position, &steps, &length)))
+  if (!refused("position", frame_history_position(words, WORDS, root, &position, &steps, &length)))
     printf("  position %u of %u, length %u\n", (unsigned)position, (unsigned)steps, (unsigned)length);
 }
 
@@ -30,21 +36,21 @@ static int login(uint32_t *words, uint32_t *desk) {
   if (refused("fresh", frame_history_fresh(words, WORDS))) return 1;
   if (refused("replace", frame_history_replace(words, WORDS, 0, desk, &hiding))) return 1;
   printf("login page: document 0; after the login document %u is in its place\n", (unsigned)*desk);
-  number = frame_history_traverse(words, WORDS, -1, changes, 4 * ROWS, &count);
+  number = frame_history_traverse(words, WORDS, MAIN, -1, changes, 4 * ROWS, &count);
   printf("back: refused, number %u\n", (unsigned)number);
-  stands(words);
+  stands(words, MAIN);
   return number != FRAME_HISTORY_BEYOND;
 }
 
-/* Goes back or forward, and tells what changed. */
-static int go(uint32_t *words, const char *where, int32_t delta) {
+/* Goes back or forward in a window, and tells what changed. */
+static int go(uint32_t *words, uint32_t root, const char *where, int32_t delta) {
   uint32_t changes[4 * ROWS], count;
-  if (refused("traverse", frame_history_traverse(words, WORDS, delta, changes, 4 * ROWS, &count))) return 1;
+  if (refused("traverse", frame_history_traverse(words, WORDS, root, delta, changes, 4 * ROWS, &count))) return 1;
   printf("%s: %u %s\n", where, (unsigned)count, count == 1 ? "change" : "changes");
   for (uint32_t i = 0; i < count; i++)
     printf("  frame %u: document %u, then %u, visible %u\n", (unsigned)changes[4 * i], (unsigned)changes[4 * i + 1],
            (unsigned)changes[4 * i + 2], (unsigned)changes[4 * i + 3]);
-  stands(words);
+  stands(words, root);
   return 0;
 }
 
@@ -126,7 +132,7 @@ static int load_earlier(void) {
   if (number != FRAME_HISTORY_NOT_SAVED || rows != 7) return 1;
   if (refused("load_old", frame_history_load_old(words, WORDS, old, sizeof old, &rows))) return 1;
   printf("load_old takes it: %u rows\n", (unsigned)rows);
-  stands(words);
+  stands(words, MAIN);
   return exchange(words);
 }
 
@@ -139,26 +145,26 @@ static int read_and_scroll(uint32_t *words, uint32_t desk, pages *p) {
   printf("stock list: document %u in frame %u\n", (unsigned)p->stock, (unsigned)frame);
   if (refused("open", frame_history_open(words, WORDS, desk, &p->quotation, &frame, &hiding))) return 1;
   printf("quotation: document %u in frame %u\n", (unsigned)p->quotation, (unsigned)frame);
-  stands(words);
+  stands(words, MAIN);
 
   if (scroll(words, p->quotation, 1312.5)) return 1;
   if (refused("navigate", frame_history_navigate(words, WORDS, p->stock, &more, &hiding))) return 1;
   printf("next page of the stock list: document %u\n", (unsigned)more);
   if (refused("navigate", frame_history_navigate(words, WORDS, p->quotation, &p->terms, &hiding))) return 1;
   printf("price terms: document %u\n", (unsigned)p->terms);
-  stands(words);
+  stands(words, MAIN);
 
   if (scroll(words, p->terms, 64)) return 1;
   if (refused("place_itself", frame_history_place_itself(words, WORDS, places, PLACES, more))) return 1;
   kept();
 
-  if (go(words, "back", -1)) return 1;
+  if (go(words, MAIN, "back", -1)) return 1;
   printf("the line is there again:\n");
   if (restore(words, p->quotation, 1.5) || restore(words, p->stock, 1.5)) return 1;
 
   if (refused("navigate", frame_history_navigate(words, WORDS, p->quotation, &p->other, &hiding))) return 1;
   printf("another link: document %u, not %u\n", (unsigned)p->other, (unsigned)p->terms);
-  stands(words);
+  stands(words, MAIN);
   if (scroll(words, p->other, 20.25)) return 1;
   kept();
   return 0;
@@ -171,18 +177,67 @@ static int sell_for_cash(uint32_t *words, const pages *p) {
   printf("prices: document %u in frame %u\n", (unsigned)prices, (unsigned)frame);
   if (refused("navigate", frame_history_navigate(words, WORDS, prices, &more, &hiding))) return 1;
   printf("next page of the prices: document %u\n", (unsigned)more);
-  stands(words);
+  stands(words, MAIN);
 
-  if (go(words, "back twice", -2)) return 1;
+  if (go(words, MAIN, "back twice", -2)) return 1;
   sight(words, p->quotation);
   sight(words, p->other);
   sight(words, prices);
-  if (click(words, prices, p->other) || go(words, "forward twice", 2)) return 1;
+  if (click(words, prices, p->other) || go(words, MAIN, "forward twice", 2)) return 1;
 
   if (refused("drop", frame_history_drop(words, WORDS, frame, &removed, &hiding))) return 1;
   printf("cash sale: frame %u goes, %u rows\n", (unsigned)frame, (unsigned)removed);
-  stands(words);
+  stands(words, MAIN);
   return 0;
+}
+
+/* What is to be seen in a window, and where it stands. */
+static int tell(const uint32_t *words, const char *name, uint32_t root) {
+  uint32_t pairs[2 * ROWS], count, position, steps, length;
+  if (refused("outline", frame_history_outline(words, WORDS, root, pairs, 2 * ROWS, &count))) return 1;
+  if (refused("position", frame_history_position(words, WORDS, root, &position, &steps, &length))) return 1;
+  printf("  %s: documents", name);
+  for (uint32_t i = 0; i < count; i++) printf(" %u", (unsigned)pairs[2 * i + 1]);
+  printf("; position %u of %u, length %u\n", (unsigned)position, (unsigned)steps, (unsigned)length);
+  return 0;
+}
+
+/* The same of both. */
+static int tell_both(const uint32_t *words, uint32_t card) {
+  return tell(words, "main window", MAIN) || tell(words, "customer card", card);
+}
+
+/* Navigates, and leaves the new document in place of the one that it is asked from. */
+static int follow(uint32_t *words, uint32_t *document) {
+  uint32_t hiding;
+  return refused("navigate", frame_history_navigate(words, WORDS, *document, document, &hiding));
+}
+
+/* The number of a frame that a document holds names no window. */
+static int no_window(const uint32_t *words, uint32_t frame) {
+  uint32_t position = 7, steps = 7, length = 7, number = frame_history_position(words, WORDS, frame, &position, &steps, &length);
+  printf("frame %u is no window: refused, number %u\n", (unsigned)frame, (unsigned)number);
+  return number != FRAME_HISTORY_NO_WINDOW || position != 7 || steps != 7 || length != 7;
+}
+
+/* A customer card beside the main window: links followed in both in turn, Back in one, another link in the other, and the table saved with both. */
+static int pop_up(void) {
+  uint32_t words[WORDS], customer, card, order, frame, hiding;
+  if (refused("fresh", frame_history_fresh(words, WORDS))) return 1;
+  if (refused("tab", frame_history_tab(words, WORDS, &customer, &card))) return 1;
+  printf("a customer card beside the main window: document %u in root frame %u\n", (unsigned)customer, (unsigned)card);
+  if (refused("open", frame_history_open(words, WORDS, 0, &order, &frame, &hiding))) return 1;
+  printf("orders in the main window: document %u in frame %u\n", (unsigned)order, (unsigned)frame);
+  for (int turn = 0; turn < 2; turn++) {
+    if (follow(words, &order) || follow(words, &customer)) return 1;
+    printf("the main window goes on to document %u, the card to document %u\n", (unsigned)order, (unsigned)customer);
+  }
+  if (tell_both(words, card)) return 1;
+
+  if (go(words, MAIN, "back in the main window", -1) || tell(words, "customer card", card)) return 1;
+  if (follow(words, &customer)) return 1;
+  printf("the card goes on to document %u, and what is ahead in the main window stays\n", (unsigned)customer);
+  return tell_both(words, card) || no_window(words, frame) || exchange(words);
 }
 
 int main(void) {
@@ -194,5 +249,5 @@ int main(void) {
   printf("document %u: refused, number %u; the out words still hold %u, %u and %u\n", (unsigned)p.terms, (unsigned)number, (unsigned)answer,
          (unsigned)hiding, (unsigned)links);
   if (number != FRAME_HISTORY_ABSENT || p.other == p.terms || answer != 7 || hiding != 7 || links != 7) return 1;
-  return exchange(words) || load_earlier() ? 1 : 0;
+  return exchange(words) || load_earlier() || pop_up() ? 1 : 0;
 }

@@ -1,6 +1,6 @@
 //! Both libraries must answer alike and leave the same in all that is lent.
 use crate::calls::{Call, Lent, make};
-use crate::cases::{Case, after, last, saved};
+use crate::cases::{Case, after, last, saved, saved_before};
 use crate::face::{OURS, TWIN};
 
 /// Makes a call with both libraries; the answer, and what is left.
@@ -12,7 +12,7 @@ fn both(name: &str, call: Call, start: &Lent) -> (u32, Lent) {
     (answers.0, ours)
 }
 
-/// The same kind of call with every small argument.
+/// The same kind of call with every small argument, and of every window with a small root frame.
 fn others(call: Call, most: u32) -> Vec<Call> {
     let amounts = || -(most as i32)..=most as i32;
     match call {
@@ -25,7 +25,10 @@ fn others(call: Call, most: u32) -> Vec<Call> {
         Call::PlaceAt(_) => (0..=most).map(Call::PlaceAt).collect(),
         Call::Place(_) => (0..=most).map(Call::Place).collect(),
         Call::PlaceAtZoom(_) => (0..=most).map(Call::PlaceAtZoom).collect(),
-        Call::Traverse(_) => amounts().map(Call::Traverse).collect(),
+        Call::Position(_) => (0..=most).map(Call::Position).collect(),
+        Call::Lists(_) => (0..=most).map(Call::Lists).collect(),
+        Call::Outline(_) => (0..=most).map(Call::Outline).collect(),
+        Call::Traverse(..) => (0..=most).flat_map(|root| amounts().map(move |delta| Call::Traverse(root, delta))).collect(),
         Call::Stretch(_) => amounts().map(Call::Stretch).collect(),
         call => vec![call],
     }
@@ -43,7 +46,7 @@ const TELLING: [u64; 8] = [
     1 << 63,
 ];
 
-/// What is lent, with one word or byte changed, or with one run cut short.
+/// What is lent, with one word or byte changed, with the flags of a hidden and a shown row exchanged, or with one run cut short.
 fn damaged(lent: &Lent) -> Vec<Lent> {
     let mut all = Vec::new();
     let mut with = |change: &dyn Fn(&mut Lent)| {
@@ -56,6 +59,10 @@ fn damaged(lent: &Lent) -> Vec<Lent> {
         for value in [0, 1, 2, lent.words[k].wrapping_add(1), u32::MAX] {
             with(&|other| other.words[k] = value);
         }
+    }
+    let flags = || (6..lent.words.len()).step_by(4);
+    for (hidden, shown) in flags().flat_map(|a| flags().map(move |b| (a, b))).filter(|&(a, b)| lent.words[a] < lent.words[b]) {
+        with(&|other| other.words.swap(hidden, shown));
     }
     for k in 0..lent.first.len() {
         with(&|other| other.first.truncate(k));
@@ -81,8 +88,8 @@ fn damaged(lent: &Lent) -> Vec<Lent> {
 pub fn check(case: &Case) {
     let (answer, end) = both(case.name, case.call, &case.lent);
     assert_eq!(answer, 0, "{}: refused", case.name);
-    if let Call::Traverse(delta) = case.call {
-        let (_, back) = both(case.name, Call::Traverse(-delta), &end);
+    if let Call::Traverse(root, delta) = case.call {
+        let (_, back) = both(case.name, Call::Traverse(root, -delta), &end);
         assert!(back.words == case.lent.words, "{}: no way back", case.name);
     }
 }
@@ -97,7 +104,7 @@ pub fn check_near(case: &Case) {
     }
 }
 
-/// Fails where the libraries differ on a record whose root is navigated: every document but the new one is then hidden, by itself or from above.
+/// Fails where the libraries differ on a record whose root is navigated: every document of that window but the new one is then hidden, by itself or from above.
 pub fn check_hidden(words: &[u32]) {
     let lent = Lent::new(after(Call::Navigate(0), words).words);
     let (_, told) = both("hidden", Call::Visible(last(words)), &lent);
@@ -109,16 +116,27 @@ pub fn check_hidden(words: &[u32]) {
     }
 }
 
-/// Fails where the libraries differ on a record with documents replaced: on every call with every small argument, and on what is loaded of its saved form.
-pub fn check_replaced(words: &[u32]) {
+/// Fails where the libraries differ on a record: on every call with every small argument, and on what is loaded of its saved form.
+pub fn check_every(name: &str, words: &[u32]) {
     let lent = Lent::with_store(words.to_vec());
-    let numbered = [Call::Open(0), Call::Navigate(0), Call::Drop(0), Call::Replace(0), Call::Visible(0), Call::Traverse(0), Call::PlaceItself(0), Call::Place(0)];
-    for call in numbered.into_iter().flat_map(|call| others(call, words[1] + 1)).chain([Call::Position, Call::Lists, Call::Outline, Call::Save]) {
-        both("replaced", call, &lent);
+    let numbered = [Call::Open(0), Call::Navigate(0), Call::Drop(0), Call::Replace(0), Call::Visible(0), Call::PlaceItself(0), Call::Place(0)];
+    let of_window = [Call::Traverse(0, 0), Call::Position(0), Call::Lists(0), Call::Outline(0)];
+    for call in numbered.into_iter().chain(of_window).flat_map(|call| others(call, words[1] + 1)).chain([Call::Tab, Call::Save]) {
+        both(name, call, &lent);
     }
-    let (answer, again) = both("replaced", Call::Load, &saved(words));
-    assert!(answer == 0 && again.words == words, "what is saved is not loaded again");
-    both("replaced", Call::LoadOld, &saved(words));
+    let (answer, again) = both(name, Call::Load, &saved(words));
+    assert!(answer == 0 && again.words == words, "{name}: what is saved is not loaded again");
+    both(name, Call::LoadOld, &saved(words));
+}
+
+/// Fails where the libraries differ on a table of several windows: on every call, on damaged words, and on bytes of the old form, which has one window.
+pub fn check_windows(name: &'static str, words: &[u32]) {
+    check_every(name, words);
+    for call in [Call::Position(0), Call::Navigate(words[3])] {
+        check_near(&Case { name, call, lent: Lent::new(words.to_vec()) });
+    }
+    let (answer, _) = both(name, Call::LoadOld, &saved_before(words));
+    assert_eq!(answer, 3, "{name}: the old form is loaded with several windows");
 }
 
 /// Fails where the libraries differ on a store without entries of the last documents, and with two others that are free or of documents that are gone.

@@ -4,19 +4,21 @@ use std::hint::black_box;
 use std::ops::Range;
 use twin::face::Point;
 
+/// The calls; those that name a window have its root frame first.
 #[derive(Clone, Copy, PartialEq)]
 pub enum Call {
     Fresh,
     Open(u32),
+    Tab,
     Navigate(u32),
-    Traverse(i32),
+    Traverse(u32, i32),
     Drop(u32),
     Replace(u32),
-    Position,
+    Position(u32),
     Visible(u32),
-    Lists,
+    Lists(u32),
     Stretch(i32),
-    Outline,
+    Outline(u32),
     Save,
     Load,
     LoadOld,
@@ -81,15 +83,16 @@ pub fn make(face: &Face, call: Call, lent: &mut Lent) -> u32 {
         match call {
             Call::Fresh => (face.fresh)(words, count),
             Call::Open(parent) => (face.open)(words, count, black_box(parent), a, b, c),
+            Call::Tab => (face.tab)(words, count, a, b),
             Call::Navigate(from) => (face.navigate)(words, count, black_box(from), a, b),
-            Call::Traverse(delta) => (face.traverse)(words, count, black_box(delta), first, first_count, a),
+            Call::Traverse(root, delta) => (face.traverse)(words, count, black_box(root), black_box(delta), first, first_count, a),
             Call::Drop(frame) => (face.drop)(words, count, black_box(frame), a, b),
             Call::Replace(document) => (face.replace)(words, count, black_box(document), a, b),
-            Call::Position => (face.position)(words, count, a, b, c),
+            Call::Position(root) => (face.position)(words, count, black_box(root), a, b, c),
             Call::Visible(document) => (face.visible)(words, count, black_box(document), a, b, c),
-            Call::Lists => (face.lists)(words, count, first, first_count, second, second_count, a, b),
+            Call::Lists(root) => (face.lists)(words, count, black_box(root), first, first_count, second, second_count, a, b),
             Call::Stretch(delta) => (face.stretch)(first, first_count, second, second_count, black_box(delta), a),
-            Call::Outline => (face.outline)(words, count, first, first_count, a),
+            Call::Outline(root) => (face.outline)(words, count, black_box(root), first, first_count, a),
             Call::Save => (face.save)(words, count, bytes, bytes_count, a),
             Call::Load => (face.load)(words, count, bytes, bytes_count, a),
             Call::LoadOld => (face.load_old)(words, count, bytes, bytes_count, a),

@@ -17,17 +17,17 @@ fn turns(times: u32, mut turn: impl FnMut()) -> f64 {
     start.elapsed().as_nanos() as f64 / times as f64
 }
 
-/// The nanoseconds of a call, over so many. A traversal goes there and back; the words that Open, Navigate, Drop and Replace change are put back.
+/// The nanoseconds of a call, over so many. A traversal goes there and back; the words that Open, Tab, Navigate, Drop and Replace change are put back.
 fn time(face: &Face, call: Call, lent: &mut Lent, times: u32) -> f64 {
     match call {
-        Call::Traverse(delta) => {
+        Call::Traverse(root, delta) => {
             let pair = turns(times, || {
-                make(face, Call::Traverse(delta), lent);
-                make(face, Call::Traverse(-delta), lent);
+                make(face, Call::Traverse(root, delta), lent);
+                make(face, Call::Traverse(root, -delta), lent);
             });
             pair / 2.0
         }
-        Call::Open(_) | Call::Navigate(_) | Call::Drop(_) | Call::Replace(_) => {
+        Call::Open(_) | Call::Tab | Call::Navigate(_) | Call::Drop(_) | Call::Replace(_) => {
             let undo = Undo::of(&lent.words, &after(call, &lent.words).words);
             turns(times, || {
                 make(face, call, lent);

@@ -10,15 +10,16 @@ type Real<'a> = &'a mut f64;
 pub struct Face {
     pub fresh: unsafe extern "C" fn(Words, usize) -> u32,
     pub open: unsafe extern "C" fn(Words, usize, u32, Out, Out, Out) -> u32,
+    pub tab: unsafe extern "C" fn(Words, usize, Out, Out) -> u32,
     pub navigate: unsafe extern "C" fn(Words, usize, u32, Out, Out) -> u32,
-    pub traverse: unsafe extern "C" fn(Words, usize, i32, Words, usize, Out) -> u32,
+    pub traverse: unsafe extern "C" fn(Words, usize, u32, i32, Words, usize, Out) -> u32,
     pub drop: unsafe extern "C" fn(Words, usize, u32, Out, Out) -> u32,
     pub replace: unsafe extern "C" fn(Words, usize, u32, Out, Out) -> u32,
-    pub position: unsafe extern "C" fn(Read, usize, Out, Out, Out) -> u32,
+    pub position: unsafe extern "C" fn(Read, usize, u32, Out, Out, Out) -> u32,
     pub visible: unsafe extern "C" fn(Read, usize, u32, Out, Out, Out) -> u32,
-    pub lists: unsafe extern "C" fn(Read, usize, Words, usize, Words, usize, Out, Out) -> u32,
+    pub lists: unsafe extern "C" fn(Read, usize, u32, Words, usize, Words, usize, Out, Out) -> u32,
     pub stretch: unsafe extern "C" fn(Read, usize, Read, usize, i32, Out) -> u32,
-    pub outline: unsafe extern "C" fn(Read, usize, Words, usize, Out) -> u32,
+    pub outline: unsafe extern "C" fn(Read, usize, u32, Words, usize, Out) -> u32,
     pub save: unsafe extern "C" fn(Read, usize, *mut u8, usize, Out) -> u32,
     pub load: unsafe extern "C" fn(Words, usize, *const u8, usize, Out) -> u32,
     pub load_old: unsafe extern "C" fn(Words, usize, *const u8, usize, Out) -> u32,
@@ -31,15 +32,17 @@ pub struct Face {
 extern "C" {
     fn frame_history_fresh(words: Words, count: usize) -> u32;
     fn frame_history_open(words: Words, count: usize, parent: u32, document: Out, frame: Out, hiding: Out) -> u32;
+    fn frame_history_tab(words: Words, count: usize, document: Out, frame: Out) -> u32;
     fn frame_history_navigate(words: Words, count: usize, from: u32, document: Out, hiding: Out) -> u32;
-    fn frame_history_traverse(words: Words, count: usize, delta: i32, changes: Words, changes_count: usize, changed: Out) -> u32;
+    fn frame_history_traverse(words: Words, count: usize, root: u32, delta: i32, changes: Words, changes_count: usize, changed: Out) -> u32;
     fn frame_history_drop(words: Words, count: usize, frame: u32, removed: Out, hiding: Out) -> u32;
     fn frame_history_replace(words: Words, count: usize, document: u32, replacement: Out, hiding: Out) -> u32;
-    fn frame_history_position(words: Read, count: usize, position: Out, steps: Out, length: Out) -> u32;
+    fn frame_history_position(words: Read, count: usize, root: u32, position: Out, steps: Out, length: Out) -> u32;
     fn frame_history_visible(words: Read, count: usize, document: u32, answer: Out, hiding: Out, links: Out) -> u32;
     fn frame_history_lists(
         words: Read,
         count: usize,
+        root: u32,
         taken: Words,
         taken_count: usize,
         upcoming: Words,
@@ -48,7 +51,7 @@ extern "C" {
         upcomings: Out,
     ) -> u32;
     fn frame_history_stretch(taken: Read, taken_count: usize, upcoming: Read, upcoming_count: usize, delta: i32, entries: Out) -> u32;
-    fn frame_history_outline(words: Read, count: usize, pairs: Words, pairs_count: usize, written: Out) -> u32;
+    fn frame_history_outline(words: Read, count: usize, root: u32, pairs: Words, pairs_count: usize, written: Out) -> u32;
     fn frame_history_save(words: Read, count: usize, bytes: *mut u8, bytes_count: usize, length: Out) -> u32;
     fn frame_history_load(words: Words, count: usize, bytes: *const u8, bytes_count: usize, rows: Out) -> u32;
     fn frame_history_load_old(words: Words, count: usize, bytes: *const u8, bytes_count: usize, rows: Out) -> u32;
@@ -71,6 +74,7 @@ extern "C" {
 pub static OURS: Face = Face {
     fresh: frame_history_fresh,
     open: frame_history_open,
+    tab: frame_history_tab,
     navigate: frame_history_navigate,
     traverse: frame_history_traverse,
     drop: frame_history_drop,
@@ -92,6 +96,7 @@ pub static OURS: Face = Face {
 pub static TWIN: Face = Face {
     fresh: face::fresh,
     open: face::open,
+    tab: face::tab,
     navigate: face::navigate,
     traverse: face::traverse,
     drop: face::drop,

@@ -1,10 +1,10 @@
 //! The questions: position, visible, lists, stretch.
-use crate::record::{DOCUMENT, Refusal, Stand, climb, examine, find, locate, steps};
+use crate::record::{DOCUMENT, Refusal, Stand, climb, examine, find, steps};
+use crate::windows::ask;
 
-/// Position and steps.
-pub fn position(words: &[u32]) -> Result<(usize, usize), Refusal> {
-    let stand = locate(words)?;
-    Ok((stand.position, stand.steps))
+/// Position and steps of a window.
+pub fn position(words: &[u32], root: u32) -> Result<(usize, usize), Refusal> {
+    ask(words, root, |stand| Ok((stand.position, stand.steps)))
 }
 
 /// Who hides a document, nobody where it is visible; and how many parent links were followed.
@@ -34,9 +34,13 @@ fn list_mixed(stand: &Stand, taken: &mut [u32], upcoming: &mut [u32]) -> usize {
     rows.len()
 }
 
-/// Fills both lists; how many entries each has.
-pub fn lists(words: &[u32], taken: &mut [u32], upcoming: &mut [u32]) -> Result<(usize, usize), Refusal> {
-    let stand = locate(words)?;
+/// Fills both lists of a window; how many entries each has.
+pub fn lists(words: &[u32], root: u32, taken: &mut [u32], upcoming: &mut [u32]) -> Result<(usize, usize), Refusal> {
+    ask(words, root, |stand| list(stand, taken, upcoming))
+}
+
+/// Fills both lists from where a window stands.
+fn list(stand: Stand, taken: &mut [u32], upcoming: &mut [u32]) -> Result<(usize, usize), Refusal> {
     let ahead = stand.steps - stand.position;
     if taken.len() < stand.position || upcoming.len() < ahead {
         return Err(Refusal::ShortBuffer);

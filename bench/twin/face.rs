@@ -33,14 +33,27 @@ pub unsafe extern "C" fn open(words: *mut u32, count: usize, parent: u32, docume
     answer_hiding(moves::open(lent_mut(words, count), parent), hiding, |numbers| (*document, *frame) = numbers)
 }
 
+/// Opens a window: document and root frame.
+pub unsafe extern "C" fn tab(words: *mut u32, count: usize, document: &mut u32, frame: &mut u32) -> u32 {
+    answer(moves::tab(lent_mut(words, count)), |numbers| (*document, *frame) = numbers)
+}
+
 /// Navigates: the new document.
 pub unsafe extern "C" fn navigate(words: *mut u32, count: usize, from: u32, document: &mut u32, hiding: &mut u32) -> u32 {
     answer_hiding(moves::navigate(lent_mut(words, count), from), hiding, |number| *document = number)
 }
 
-/// Traverses: how many change rows.
-pub unsafe extern "C" fn traverse(words: *mut u32, count: usize, delta: i32, changes: *mut u32, changes_count: usize, changed: &mut u32) -> u32 {
-    answer(traverse::traverse(lent_mut(words, count), delta, lent_mut(changes, changes_count)), |n| *changed = n as u32)
+/// Traverses in a window: how many change rows.
+pub unsafe extern "C" fn traverse(
+    words: *mut u32,
+    count: usize,
+    root: u32,
+    delta: i32,
+    changes: *mut u32,
+    changes_count: usize,
+    changed: &mut u32,
+) -> u32 {
+    answer(traverse::traverse(lent_mut(words, count), root, delta, lent_mut(changes, changes_count)), |n| *changed = n as u32)
 }
 
 /// Takes a frame out: how many rows went.
@@ -53,9 +66,9 @@ pub unsafe extern "C" fn replace(words: *mut u32, count: usize, document: u32, r
     answer_hiding(moves::replace(lent_mut(words, count), document), hiding, |number| *replacement = number)
 }
 
-/// Position, steps, and the length for scripts.
-pub unsafe extern "C" fn position(words: *const u32, count: usize, position: &mut u32, steps: &mut u32, length: &mut u32) -> u32 {
-    answer(asks::position(lent(words, count)), |(p, s)| (*position, *steps, *length) = (p as u32, s as u32, s as u32 + 1))
+/// Position and steps of a window, and its length for scripts.
+pub unsafe extern "C" fn position(words: *const u32, count: usize, root: u32, position: &mut u32, steps: &mut u32, length: &mut u32) -> u32 {
+    answer(asks::position(lent(words, count), root), |(p, s)| (*position, *steps, *length) = (p as u32, s as u32, s as u32 + 1))
 }
 
 /// Whether a document is visible, who hides it, and how many parent links were followed.
@@ -64,10 +77,11 @@ pub unsafe extern "C" fn visible(words: *const u32, count: usize, document: u32,
     answer(asks::visible(lent(words, count), document), tell)
 }
 
-/// Taken and upcoming steps: how many of each.
+/// Taken and upcoming steps of a window: how many of each.
 pub unsafe extern "C" fn lists(
     words: *const u32,
     count: usize,
+    root: u32,
     taken: *mut u32,
     taken_count: usize,
     upcoming: *mut u32,
@@ -76,7 +90,7 @@ pub unsafe extern "C" fn lists(
     upcomings: &mut u32,
 ) -> u32 {
     let (taken, upcoming) = (lent_mut(taken, taken_count), lent_mut(upcoming, upcoming_count));
-    answer(asks::lists(lent(words, count), taken, upcoming), |(t, u)| (*takens, *upcomings) = (t as u32, u as u32))
+    answer(asks::lists(lent(words, count), root, taken, upcoming), |(t, u)| (*takens, *upcomings) = (t as u32, u as u32))
 }
 
 /// How many entries of the own list.
@@ -91,9 +105,9 @@ pub unsafe extern "C" fn stretch(
     answer(asks::stretch(lent(taken, taken_count), lent(upcoming, upcoming_count), delta), |part| *entries = part.len() as u32)
 }
 
-/// The visible documents: how many pairs.
-pub unsafe extern "C" fn outline(words: *const u32, count: usize, pairs: *mut u32, pairs_count: usize, written: &mut u32) -> u32 {
-    answer(outline::outline(lent(words, count), lent_mut(pairs, pairs_count)), |n| *written = n as u32)
+/// The visible documents of a window: how many pairs.
+pub unsafe extern "C" fn outline(words: *const u32, count: usize, root: u32, pairs: *mut u32, pairs_count: usize, written: &mut u32) -> u32 {
+    answer(outline::outline(lent(words, count), root, lent_mut(pairs, pairs_count)), |n| *written = n as u32)
 }
 
 /// The saved form: its length.

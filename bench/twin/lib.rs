@@ -9,3 +9,4 @@ pub mod record;
 mod saved;
 pub mod script;
 mod traverse;
+mod windows;

@@ -1,5 +1,6 @@
-//! Fresh, Open, Navigate, Drop and Replace.
-use crate::record::{DOCUMENT, FRAME, NONE, PARENT, Refusal, Row, SHOWN, capacity, examine, find, hider, locate, room_mut};
+//! Fresh, Open, Tab, Navigate, Drop and Replace.
+use crate::record::{DOCUMENT, FRAME, NONE, PARENT, Refusal, Row, SHOWN, Stand, Table, capacity, examine, find, hider, locate, room_mut};
+use crate::windows::Window;
 
 /// The record of a new window.
 pub fn fresh(words: &mut [u32]) -> Result<(), Refusal> {
@@ -24,6 +25,17 @@ pub fn open(words: &mut [u32], parent: u32) -> Result<(u32, u32), Refusal> {
     let rows = examine(words)?;
     judge_visible(rows, parent)?;
     let count = rows.len();
+    begin(words, count, parent)
+}
+
+/// Opens a window: the new document and its root frame.
+pub fn tab(words: &mut [u32]) -> Result<(u32, u32), Refusal> {
+    let count = examine(words)?.len();
+    begin(words, count, NONE)
+}
+
+/// Appends a frame's first row to so many rows, after refusals 7 and 8: its document and frame.
+fn begin(words: &mut [u32], count: usize, parent: u32) -> Result<(u32, u32), Refusal> {
     if count == capacity(words) {
         return Err(Refusal::Full);
     }
@@ -50,21 +62,38 @@ fn close_gaps(rows: &mut [Row], start: usize, end: usize) -> usize {
     kept
 }
 
-/// Navigates from a document: the new document.
-pub fn navigate(words: &mut [u32], from: u32) -> Result<u32, Refusal> {
-    let stand = locate(words)?;
-    judge_visible(stand.rows, from)?;
-    let (count, start) = (stand.rows.len(), stand.upcoming);
-    if count == capacity(words) && stand.position == stand.steps {
+/// Moves down every row from `start` on but the upcoming steps of a row's window, as its hidden rows from there on are, and all beneath those; how many rows stay.
+fn close_beside(rows: &mut [Row], at: usize, start: usize) -> usize {
+    if start == rows.len() {
+        return start;
+    }
+    let mut window = Window::above(rows, at);
+    let mut kept = start;
+    for at in start..rows.len() {
+        let row = rows[at];
+        if window.side(&rows[..kept], &row).is_some_and(|within| !within || row[SHOWN] == 1) {
+            rows[kept] = row;
+            kept += 1;
+        }
+    }
+    kept
+}
+
+/// Refusals 7 and 8 of Navigate, where all rows stay or some go.
+fn judge_step(words: &[u32], all_stay: bool) -> Result<(), Refusal> {
+    if all_stay && words[0] as usize == capacity(words) {
         return Err(Refusal::Full);
     }
-    let document = words[1];
-    if document == NONE {
+    if words[1] == NONE {
         return Err(Refusal::UsedUp);
     }
-    let end = if stand.frames() + stand.position == start { start } else { count };
+    Ok(())
+}
+
+/// Appends the step from a document to the rows that stay, and clears those behind them: the new document.
+fn step_from(words: &mut [u32], from: u32, kept: usize) -> u32 {
+    let (count, document) = (words[0] as usize, words[1]);
     let rows = room_mut(words);
-    let kept = close_gaps(rows, start, end);
     let left = find(&rows[..kept], from).expect("a visible document stays");
     rows[left][SHOWN] = 0;
     rows[kept] = [document, rows[left][FRAME], rows[left][PARENT], 1];
@@ -72,24 +101,45 @@ pub fn navigate(words: &mut [u32], from: u32) -> Result<u32, Refusal> {
         rows[kept + 1..count].fill([0; 4]);
     }
     words[..2].copy_from_slice(&[kept as u32 + 1, document + 1]);
-    Ok(document)
+    document
 }
 
-/// Moves down every row from `start` on that neither goes by itself nor is beneath one that went; how many rows stay. The parents last found
-/// among the rows that stay and last missed there need no search: one of each is given.
+/// Navigates from a document: the new document.
+pub fn navigate(words: &mut [u32], from: u32) -> Result<u32, Refusal> {
+    let kept = match locate(words)? {
+        Table { stand, several: None } => {
+            judge_visible(stand.rows, from)?;
+            let (count, start) = (stand.rows.len(), stand.upcoming);
+            let end = if stand.frames() + stand.position == start { start } else { count };
+            judge_step(words, stand.position == stand.steps)?;
+            close_gaps(room_mut(words), start, end)
+        }
+        Table { stand: Stand { rows, .. }, several: Some(several) } => {
+            let at = judge_visible(rows, from)?;
+            let (count, start) = (rows.len(), several.upcoming_beside(rows, at));
+            judge_step(words, start == count)?;
+            close_beside(&mut room_mut(words)[..count], at, start)
+        }
+    };
+    Ok(step_from(words, from, kept))
+}
+
+/// Moves down every row from `start` on that neither goes by itself nor is beneath one that went; how many rows stay. The two parents last found
+/// among the rows that stay, as two windows have them in turn, and the one last missed there need no search: one of each is given.
 fn close_over(rows: &mut [Row], start: usize, mut known: u32, mut gone: u32, goes: impl Fn(&Row) -> bool) -> usize {
     let mut kept = start;
+    let mut other = known;
     for at in start..rows.len() {
         let row = rows[at];
         if goes(&row) || row[PARENT] == gone {
             continue;
         }
         if row[PARENT] != known {
-            if row[PARENT] != NONE && find(&rows[..kept], row[PARENT]).is_none() {
+            if row[PARENT] != other && row[PARENT] != NONE && find(&rows[..kept], row[PARENT]).is_none() {
                 gone = row[PARENT];
                 continue;
             }
-            known = row[PARENT];
+            (known, other) = (row[PARENT], known);
         }
         rows[kept] = row;
         kept += 1;

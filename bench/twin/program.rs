@@ -1,12 +1,12 @@
 //! Reads standard input to its end, line by line, and prints the answer to each line.
 use std::io::{Read, Write, stdin, stdout};
-use twin::script::Window;
+use twin::script::Session;
 
 const BUFFER: usize = 1 << 16;
 
 /// Reads, splits and answers; a line that is longer than 64 bytes is bad whatever its 66th byte is, so 65 are kept.
 fn main() -> std::io::Result<()> {
-    let mut window = Window::new();
+    let mut session = Session::new();
     let mut buffer = vec![0; BUFFER];
     let mut line = Vec::with_capacity(65);
     let mut out = Vec::with_capacity(BUFFER);
@@ -18,7 +18,7 @@ fn main() -> std::io::Result<()> {
         }
         for &byte in &buffer[..got] {
             if byte == b'\n' {
-                window.turn(&line, &mut out);
+                session.turn(&line, &mut out);
                 line.clear();
                 if out.len() > BUFFER - 66 {
                     output.write_all(&out)?;
@@ -30,7 +30,7 @@ fn main() -> std::io::Result<()> {
         }
     }
     if !line.is_empty() {
-        window.turn(&line, &mut out);
+        session.turn(&line, &mut out);
     }
     output.write_all(&out)
 }

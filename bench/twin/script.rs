@@ -5,7 +5,8 @@ use crate::{asks, moves, traverse};
 enum Command {
     Open(u32),
     Nav(u32),
-    Go(i32),
+    Go(i32, u32),
+    Tab,
     Drop(u32),
     Replace(u32),
 }
@@ -28,6 +29,17 @@ fn numeral(text: &[u8], top: u32) -> Option<u32> {
     Some(number as u32)
 }
 
+/// The signed number that digits spell, with a minus before those of one below 0.
+fn amount(text: &[u8]) -> Option<i32> {
+    match text.strip_prefix(b"-") {
+        Some(digits) => match numeral(digits, 1 << 31)? {
+            0 => None,
+            amount => Some(amount.wrapping_neg() as i32),
+        },
+        None => Some(numeral(text, i32::MAX as u32)? as i32),
+    }
+}
+
 /// What a line asks, if it is none that is answered `bad`.
 fn parse(line: &[u8]) -> Option<Command> {
     if line.len() > 64 {
@@ -45,13 +57,13 @@ fn parse(line: &[u8]) -> Option<Command> {
     if let Some(text) = line.strip_prefix(b"replace ") {
         return Some(Command::Replace(numeral(text, u32::MAX)?));
     }
+    if line == b"tab" {
+        return Some(Command::Tab);
+    }
     let text = line.strip_prefix(b"go ")?;
-    match text.strip_prefix(b"-") {
-        Some(digits) => match numeral(digits, 1 << 31)? {
-            0 => None,
-            amount => Some(Command::Go(amount.wrapping_neg() as i32)),
-        },
-        None => Some(Command::Go(numeral(text, i32::MAX as u32)? as i32)),
+    match text.iter().position(|byte| *byte == b' ') {
+        Some(end) => Some(Command::Go(amount(&text[..end])?, numeral(&text[end + 1..], u32::MAX)?)),
+        None => Some(Command::Go(amount(text)?, 0)),
     }
 }
 
@@ -63,29 +75,53 @@ fn put_decimal(out: &mut Vec<u8>, number: usize) {
     out.push(b'0' + (number % 10) as u8);
 }
 
-/// The window of a script.
-pub struct Window {
+/// What an accepted line answers: a number, or of a new window its document and root frame.
+enum Value {
+    Number(usize),
+    Window(u32, u32),
+}
+
+/// Appends whether a command was accepted, with its numbers.
+fn put_result(out: &mut Vec<u8>, result: Result<Value, Refusal>) {
+    let (word, number, more) = match result {
+        Ok(Value::Number(number)) => ("ok ", number, None),
+        Ok(Value::Window(document, frame)) => ("ok ", document as usize, Some((" ", frame))),
+        Err(Refusal::Hidden(document)) => ("no ", Refusal::Hidden(document).number() as usize, Some((" at ", document))),
+        Err(refusal) => ("no ", refusal.number() as usize, None),
+    };
+    out.extend(word.as_bytes());
+    put_decimal(out, number);
+    if let Some((word, number)) = more {
+        out.extend(word.as_bytes());
+        put_decimal(out, number as usize);
+    }
+}
+
+/// The table of a script.
+pub struct Session {
     words: [u32; 3 + 4 * MOST_ROWS],
     changes: [u32; 4 * MOST_ROWS],
 }
 
-impl Window {
+impl Session {
     /// A fresh record with room for 512 rows.
-    pub fn new() -> Window {
-        let mut window = Window { words: [0; 3 + 4 * MOST_ROWS], changes: [0; 4 * MOST_ROWS] };
-        let _ = moves::fresh(&mut window.words);
-        window
+    pub fn new() -> Session {
+        let mut session = Session { words: [0; 3 + 4 * MOST_ROWS], changes: [0; 4 * MOST_ROWS] };
+        let _ = moves::fresh(&mut session.words);
+        session
     }
 
-    /// Does what a command asks: the number that is answered.
-    fn call(&mut self, command: Command) -> Result<usize, Refusal> {
-        match command {
-            Command::Open(parent) => Ok(moves::open(&mut self.words, parent)?.0 as usize),
-            Command::Nav(from) => Ok(moves::navigate(&mut self.words, from)? as usize),
-            Command::Go(delta) => traverse::traverse(&mut self.words, delta, &mut self.changes),
-            Command::Drop(frame) => moves::drop_frame(&mut self.words, frame),
-            Command::Replace(document) => Ok(moves::replace(&mut self.words, document)? as usize),
-        }
+    /// Does what a command asks: what is answered.
+    fn call(&mut self, command: Command) -> Result<Value, Refusal> {
+        let number = match command {
+            Command::Tab => return moves::tab(&mut self.words).map(|(document, frame)| Value::Window(document, frame)),
+            Command::Open(parent) => moves::open(&mut self.words, parent)?.0 as usize,
+            Command::Nav(from) => moves::navigate(&mut self.words, from)? as usize,
+            Command::Go(delta, root) => traverse::traverse(&mut self.words, root, delta, &mut self.changes)?,
+            Command::Drop(frame) => moves::drop_frame(&mut self.words, frame)?,
+            Command::Replace(document) => moves::replace(&mut self.words, document)? as usize,
+        };
+        Ok(Value::Number(number))
     }
 
     /// Does what a line asks and appends the answer.
@@ -95,17 +131,8 @@ impl Window {
             return;
         };
         let result = self.call(command);
-        let (position, steps) = asks::position(&self.words).unwrap_or((0, 0));
-        let (word, number) = match result {
-            Ok(number) => (b"ok ", number),
-            Err(refusal) => (b"no ", refusal.number() as usize),
-        };
-        out.extend(word);
-        put_decimal(out, number);
-        if let Err(Refusal::Hidden(document)) = result {
-            out.extend(b" at ");
-            put_decimal(out, document as usize);
-        }
+        let (position, steps) = asks::position(&self.words, 0).unwrap_or((0, 0));
+        put_result(out, result);
         out.push(b' ');
         put_decimal(out, position);
         out.push(b'/');

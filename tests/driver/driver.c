@@ -4,7 +4,7 @@
    A request is HEAD words, then the lent runs: words, first, second, places, bytes (padded with zeros to whole words).
      0 call   1 number   2 how the runs lie   3 guard word   4 5 6 the out words' earlier values
      7 8 9 10 11 counts of words, first, second, places (of 64 bits each) and bytes
-     12 to 15 the doubles given: a point, or a zoom and nothing   16 to 19 the out doubles' earlier values
+     12 to 15 the doubles given: a point, or a zoom and nothing   16 to 19 the out doubles' earlier values   20 the root frame of a window
    A double goes by its bits, in two words, the lower first; so does a word of 64 bits.
    An answer is the refusal (or 0), the three out words, the guards (0 when every one is intact), the two out doubles, then the
    same runs as they are after the call, those that are lent for reading alone among them.
@@ -28,15 +28,16 @@ typedef struct { double x, y; } point;
 u32 frame_history_fresh(u32 *words, usize n);
 u32 frame_history_open(u32 *words, usize n, u32 parent, u32 *document, u32 *frame, u32 *hiding);
 u32 frame_history_navigate(u32 *words, usize n, u32 from, u32 *document, u32 *hiding);
-u32 frame_history_traverse(u32 *words, usize n, i32 delta, u32 *changes, usize changes_n, u32 *count);
-u32 frame_history_traverse_rows(u32 *words, usize n, i32 delta, row *rows, usize rows_n, u32 *count);
+u32 frame_history_traverse(u32 *words, usize n, u32 root, i32 delta, u32 *changes, usize changes_n, u32 *count);
+u32 frame_history_traverse_rows(u32 *words, usize n, u32 root, i32 delta, row *rows, usize rows_n, u32 *count);
 u32 frame_history_drop(u32 *words, usize n, u32 frame, u32 *removed, u32 *hiding);
 u32 frame_history_replace(u32 *words, usize n, u32 document, u32 *replacement, u32 *hiding);
-u32 frame_history_position(const u32 *words, usize n, u32 *position, u32 *steps, u32 *length);
+u32 frame_history_tab(u32 *words, usize n, u32 *document, u32 *frame);
+u32 frame_history_position(const u32 *words, usize n, u32 root, u32 *position, u32 *steps, u32 *length);
 u32 frame_history_visible(const u32 *words, usize n, u32 document, u32 *answer, u32 *hiding, u32 *links);
-u32 frame_history_lists(const u32 *words, usize n, u32 *taken, usize taken_n, u32 *upcoming, usize upcoming_n, u32 *taken_count, u32 *upcoming_count);
+u32 frame_history_lists(const u32 *words, usize n, u32 root, u32 *taken, usize taken_n, u32 *upcoming, usize upcoming_n, u32 *taken_count, u32 *upcoming_count);
 u32 frame_history_stretch(const u32 *taken, usize taken_n, const u32 *upcoming, usize upcoming_n, i32 delta, u32 *count);
-u32 frame_history_outline(const u32 *words, usize n, u32 *pairs, usize pairs_n, u32 *count);
+u32 frame_history_outline(const u32 *words, usize n, u32 root, u32 *pairs, usize pairs_n, u32 *count);
 u32 frame_history_save(const u32 *words, usize n, u8 *bytes, usize bytes_n, u32 *length);
 u32 frame_history_load(u32 *words, usize n, const u8 *bytes, usize bytes_n, u32 *rows);
 u32 frame_history_load_old(u32 *words, usize n, const u8 *bytes, usize bytes_n, u32 *rows);
@@ -46,11 +47,11 @@ u32 frame_history_place(const u32 *words, usize n, const u64 *places, usize plac
 u32 frame_history_place_at_zoom(const u32 *words, usize n, const u64 *places, usize places_n, u32 document, double zoom, u32 *kind, double *x, double *y);
 
 enum {
-  FRESH, OPEN, NAVIGATE, TRAVERSE, DROP, REPLACE, POSITION, VISIBLE, LISTS, STRETCH, OUTLINE, SAVE, LOAD, LOAD_OLD, PLACE_ITSELF, PLACE_AT, PLACE,
+  FRESH, OPEN, NAVIGATE, TRAVERSE, DROP, REPLACE, TAB, POSITION, VISIBLE, LISTS, STRETCH, OUTLINE, SAVE, LOAD, LOAD_OLD, PLACE_ITSELF, PLACE_AT, PLACE,
   PLACE_AT_ZOOM, NO_CALL = 99
 };
 enum { WORDS, FIRST, SECOND, PLACES, BYTES, RUNS };
-enum { HEAD = 20, PAGE = 65536, AREA = 2 * PAGE, GUARD = 64 };
+enum { HEAD = 21, PAGE = 65536, AREA = 2 * PAGE, GUARD = 64 };
 
 /* Standard input and output, each through a buffer. What is written goes out before the program waits for more. */
 static u8 in[1 << 20], out[1 << 20];
@@ -149,7 +150,7 @@ static u32 call(const u32 *head, u8 **run) {
   u64 *places = (u64 *)run[PLACES];
   u8 *bytes = run[BYTES];
   usize n = head[7], first_n = head[8], second_n = head[9], places_n = head[10], bytes_n = head[11];
-  u32 *a = outs + 1, *b = outs + 3, *c = outs + 5, number = head[1];
+  u32 *a = outs + 1, *b = outs + 3, *c = outs + 5, number = head[1], root = head[20];
   bits given[2] = {bits_of(head + 12), bits_of(head + 14)};
   double *x = &doubles[1].value, *y = &doubles[3].value;
   switch (head[0]) {
@@ -158,15 +159,16 @@ static u32 call(const u32 *head, u8 **run) {
   case NAVIGATE: return frame_history_navigate(words, n, number, a, b);
   case TRAVERSE:
     /* Every other guard word asks for the change rows as structs: the same outcome, of as many rows as the words hold. */
-    if (head[3] & 1) return frame_history_traverse_rows(words, n, (i32)number, (row *)first, first_n / 4, a);
-    return frame_history_traverse(words, n, (i32)number, first, first_n, a);
+    if (head[3] & 1) return frame_history_traverse_rows(words, n, root, (i32)number, (row *)first, first_n / 4, a);
+    return frame_history_traverse(words, n, root, (i32)number, first, first_n, a);
   case DROP: return frame_history_drop(words, n, number, a, b);
   case REPLACE: return frame_history_replace(words, n, number, a, b);
-  case POSITION: return frame_history_position(words, n, a, b, c);
+  case TAB: return frame_history_tab(words, n, a, b);
+  case POSITION: return frame_history_position(words, n, root, a, b, c);
   case VISIBLE: return frame_history_visible(words, n, number, a, b, c);
-  case LISTS: return frame_history_lists(words, n, first, first_n, second, second_n, a, b);
+  case LISTS: return frame_history_lists(words, n, root, first, first_n, second, second_n, a, b);
   case STRETCH: return frame_history_stretch(first, first_n, second, second_n, (i32)number, a);
-  case OUTLINE: return frame_history_outline(words, n, first, first_n, a);
+  case OUTLINE: return frame_history_outline(words, n, root, first, first_n, a);
   case SAVE: return frame_history_save(words, n, bytes, bytes_n, a);
   case LOAD: return frame_history_load(words, n, bytes, bytes_n, a);
   case LOAD_OLD: return frame_history_load_old(words, n, bytes, bytes_n, a);

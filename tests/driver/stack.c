@@ -6,8 +6,8 @@
    cannot be touched.
 
    It prints a line a call, and fails where a bound is missed or where a call answers other than it must on that record.
-   A new call is a line among those that make a call, a line in `calls`, and its cases in `on_sound`; tests/stack compares the
-   names, and the answers that came, with the header. */
+   A new call is a line among those that make a call, a line in `calls`, and its cases in `on_sound` and `on_windows`; a call that names a window has
+   a second line in `calls`, for records of several windows. tests/stack compares the names, and the answers that came, with the header. */
 #include "frame_history.h"
 #include <stdio.h>
 
@@ -18,12 +18,16 @@ int mprotect(void *, size_t, int);
 enum { ROWS = 512, WORDS = 3 + 4 * ROWS, BYTES = 12 + 24 * ROWS, PAGE = 65536, STACK = 2 * PAGE, MORE = PAGE / 4 };
 static const uint32_t NONE = 4294967295u;
 
-/* What is lent to a call: the number, the record, runs that are long enough for every answer, the out words; a store of places, with
-   the point or zoom that goes with it, and the out doubles. Of the record also what it is called and how many levels of documents are
-   visible in it. */
+/* Of which records something is said: of all, of those that have one window, or several. */
+enum { ALL, ONE, SEVERAL };
+
+/* What is lent to a call: the number, the root frame of a window, the record, runs that are long enough for every answer, the out words; a store
+   of places, with the point or zoom that goes with it, and the out doubles. Of the record also what it is called, whether it has one window or
+   several, and how many levels of documents are visible in the window. */
 typedef struct {
   const char *shape, *state;
-  uint32_t number, words[WORDS], first[4 * ROWS], second[ROWS], outs[3];
+  int windows;
+  uint32_t number, root, words[WORDS], first[4 * ROWS], second[ROWS], outs[3];
   uint8_t bytes[BYTES];
   frame_history_place_entry places[ROWS];
   frame_history_point point;
@@ -33,28 +37,29 @@ typedef struct {
 
 typedef uint32_t made(lent *);
 
-/* Each makes one call. It ends with a jump into the library and so uses no stack of its own; those of lists, place and place_at_zoom, which
-   have more arguments than go in registers, use 16 bytes. */
+/* Each makes one call. It ends with a jump into the library and so uses no stack of its own; those of traverse, traverse_rows, lists, place and
+   place_at_zoom, which have more arguments than go in registers, use 8 to 24 bytes. */
 static uint32_t fresh(lent *l) { return frame_history_fresh(l->words, l->n); }
 static uint32_t open(lent *l) { return frame_history_open(l->words, l->n, l->number, l->outs, l->outs + 1, l->outs + 2); }
 static uint32_t navigate(lent *l) { return frame_history_navigate(l->words, l->n, l->number, l->outs, l->outs + 1); }
 static uint32_t drop(lent *l) { return frame_history_drop(l->words, l->n, l->number, l->outs, l->outs + 1); }
 static uint32_t replace(lent *l) { return frame_history_replace(l->words, l->n, l->number, l->outs, l->outs + 1); }
 static uint32_t traverse(lent *l) {
-  return frame_history_traverse(l->words, l->n, (int32_t)l->number, l->first, l->first_n, l->outs);
+  return frame_history_traverse(l->words, l->n, l->root, (int32_t)l->number, l->first, l->first_n, l->outs);
 }
 static uint32_t traverse_rows(lent *l) {
-  return frame_history_traverse_rows(l->words, l->n, (int32_t)l->number, (frame_history_change_row *)l->first, l->first_n / 4, l->outs);
+  return frame_history_traverse_rows(l->words, l->n, l->root, (int32_t)l->number, (frame_history_change_row *)l->first, l->first_n / 4, l->outs);
 }
-static uint32_t position(lent *l) { return frame_history_position(l->words, l->n, l->outs, l->outs + 1, l->outs + 2); }
+static uint32_t tab(lent *l) { return frame_history_tab(l->words, l->n, l->outs, l->outs + 1); }
+static uint32_t position(lent *l) { return frame_history_position(l->words, l->n, l->root, l->outs, l->outs + 1, l->outs + 2); }
 static uint32_t visible(lent *l) { return frame_history_visible(l->words, l->n, l->number, l->outs, l->outs + 1, l->outs + 2); }
 static uint32_t lists(lent *l) {
-  return frame_history_lists(l->words, l->n, l->first, l->first_n, l->second, l->second_n, l->outs, l->outs + 1);
+  return frame_history_lists(l->words, l->n, l->root, l->first, l->first_n, l->second, l->second_n, l->outs, l->outs + 1);
 }
 static uint32_t stretch(lent *l) {
   return frame_history_stretch(l->first, l->first_n, l->second, l->second_n, (int32_t)l->number, l->outs);
 }
-static uint32_t outline(lent *l) { return frame_history_outline(l->words, l->n, l->first, l->first_n, l->outs); }
+static uint32_t outline(lent *l) { return frame_history_outline(l->words, l->n, l->root, l->first, l->first_n, l->outs); }
 static uint32_t save(lent *l) { return frame_history_save(l->words, l->n, l->bytes, l->bytes_n, l->outs); }
 static uint32_t load(lent *l) { return frame_history_load(l->words, l->n, l->bytes, l->bytes_n, l->outs); }
 static uint32_t load_old(lent *l) { return frame_history_load_old(l->words, l->n, l->bytes, l->bytes_n, l->outs); }
@@ -71,32 +76,39 @@ static uint32_t place_at_zoom(lent *l) {
   return frame_history_place_at_zoom(l->words, l->n, (uint64_t *)l->places, 4 * l->entries, l->number, l->zoom, l->outs, &l->x, &l->y);
 }
 
-/* A call: its name after the prefix; whether it begins with refusal 1 (1), with 1 and 2 (2), or with neither (0); its bound, with what is
-   added for each level; and what it keeps on the stack. */
-static const struct { const char *name; made *make; int begins; size_t bound, level; const char *keeps; } calls[] = {
-  {"fresh", fresh, 1, FRAME_HISTORY_STACK, 0, "its return address and that of `memset`, which clears the words"},
-  {"open", open, 2, FRAME_HISTORY_STACK, 0, "saved registers, what the test found, a few numbers; beneath them the test"},
-  {"navigate", navigate, 2, FRAME_HISTORY_STACK, 0, "as open"},
-  {"drop", drop, 2, FRAME_HISTORY_STACK, 0, "as open"},
-  {"replace", replace, 2, FRAME_HISTORY_STACK, 0, "as open"},
-  {"traverse", traverse, 2, FRAME_HISTORY_STACK, 0, "as open, once more for the part that both calls that traverse share"},
-  {"traverse_rows", traverse_rows, 2, FRAME_HISTORY_STACK, 0, "as traverse"},
-  {"position", position, 2, FRAME_HISTORY_STACK, 0, "as open"},
-  {"visible", visible, 2, FRAME_HISTORY_STACK, 0, "as open: the climb calls itself and is compiled to a loop"},
-  {"lists", lists, 2, FRAME_HISTORY_STACK, 0, "as open, and two of its eight arguments"},
-  {"stretch", stretch, 0, FRAME_HISTORY_STACK, 0, "its return address and the answer, before it is told"},
-  {"outline", outline, 2, FRAME_HISTORY_OUTLINE_STACK, FRAME_HISTORY_OUTLINE_LEVEL,
+/* A call: its name after the prefix; whether it begins with refusal 1 (1), with 1 and 2 (2), or with neither (0); of which records the line is;
+   its bound, with what is added for each level; and what it keeps on the stack. */
+static const struct { const char *name; made *make; int begins, windows; size_t bound, level; const char *keeps; } calls[] = {
+  {"fresh", fresh, 1, ALL, FRAME_HISTORY_STACK, 0, "its return address and that of `memset`, which clears the words"},
+  {"open", open, 2, ALL, FRAME_HISTORY_STACK, 0, "saved registers, what the test found, a few numbers; beneath them the test"},
+  {"navigate", navigate, 2, ALL, FRAME_HISTORY_STACK, 0, "as open"},
+  {"drop", drop, 2, ALL, FRAME_HISTORY_STACK, 0, "as open"},
+  {"replace", replace, 2, ALL, FRAME_HISTORY_STACK, 0, "as open"},
+  {"tab", tab, 2, ALL, FRAME_HISTORY_STACK, 0, "as open"},
+  {"traverse", traverse, 2, ONE, FRAME_HISTORY_STACK, 0, "as open, once more for the part that both calls that traverse share, and one of its seven arguments"},
+  {"traverse of several windows", traverse, 2, SEVERAL, FRAME_HISTORY_WINDOW_STACK, 0, "as traverse, and a copy of the window's rows"},
+  {"traverse_rows", traverse_rows, 2, ONE, FRAME_HISTORY_STACK, 0, "as traverse"},
+  {"traverse_rows of several windows", traverse_rows, 2, SEVERAL, FRAME_HISTORY_WINDOW_STACK, 0, "as traverse of several windows"},
+  {"position", position, 2, ONE, FRAME_HISTORY_WINDOW_STACK, 0, "as open, and room for a copy of the window's rows, which the compiler takes at the call's beginning"},
+  {"position of several windows", position, 2, SEVERAL, FRAME_HISTORY_WINDOW_STACK, 0, "as traverse of several windows"},
+  {"visible", visible, 2, ALL, FRAME_HISTORY_STACK, 0, "as open: the climb calls itself and is compiled to a loop"},
+  {"lists", lists, 2, ONE, FRAME_HISTORY_STACK, 0, "as open, and three of its nine arguments"},
+  {"lists of several windows", lists, 2, SEVERAL, FRAME_HISTORY_WINDOW_STACK, 0, "as traverse of several windows, and three of its nine arguments"},
+  {"stretch", stretch, 0, ALL, FRAME_HISTORY_STACK, 0, "its return address and the answer, before it is told"},
+  {"outline", outline, 2, ONE, FRAME_HISTORY_OUTLINE_STACK, FRAME_HISTORY_OUTLINE_LEVEL,
    "as open; and for each level a return address, saved registers and where it stands among a document's frames, since the outline of a "
    "document calls that of its frames (document 01)"},
-  {"save", save, 2, FRAME_HISTORY_SAVE_STACK, 0,
+  {"outline of several windows", outline, 2, SEVERAL, FRAME_HISTORY_OUTLINE_STACK, FRAME_HISTORY_OUTLINE_LEVEL,
+   "as outline"},
+  {"save", save, 2, ALL, FRAME_HISTORY_SAVE_STACK, 0,
    "as open, and two lists of 512 numbers, in which the rows of a record with many frames are put in their order"},
-  {"load", load, 1, FRAME_HISTORY_LOAD_STACK, 0,
+  {"load", load, 1, ALL, FRAME_HISTORY_LOAD_STACK, 0,
    "a record of 2051 words, 8204 bytes, since the host's words are written only once the bytes are known to be Save's"},
-  {"load_old", load_old, 1, FRAME_HISTORY_LOAD_STACK, 0, "as load"},
-  {"place_itself", place_itself, 2, FRAME_HISTORY_STACK, 0, "as open, once more for the part that both calls that set a place share"},
-  {"place_at", place_at, 2, FRAME_HISTORY_STACK, 0, "as place_itself"},
-  {"place", place, 2, FRAME_HISTORY_STACK, 0, "as open, with the place before it is told, and two of its eight arguments"},
-  {"place_at_zoom", place_at_zoom, 2, FRAME_HISTORY_STACK, 0, "as place"},
+  {"load_old", load_old, 1, ALL, FRAME_HISTORY_LOAD_STACK, 0, "as load"},
+  {"place_itself", place_itself, 2, ALL, FRAME_HISTORY_STACK, 0, "as open, once more for the part that both calls that set a place share"},
+  {"place_at", place_at, 2, ALL, FRAME_HISTORY_STACK, 0, "as place_itself"},
+  {"place", place, 2, ALL, FRAME_HISTORY_STACK, 0, "as open, with the place before it is told, and two of its eight arguments"},
+  {"place_at_zoom", place_at_zoom, 2, ALL, FRAME_HISTORY_STACK, 0, "as place"},
 };
 enum { CALLS = sizeof calls / sizeof *calls };
 
@@ -160,10 +172,13 @@ static void measure(int c, const lent *l, uint32_t answer) {
   found[c].state = l->state;
 }
 
+/* Whether a line of `calls` is of this call and record. */
+static int is_of(int c, made *make, const lent *l) { return calls[c].make == make && (calls[c].windows == ALL || calls[c].windows == l->windows); }
+
 /* The same, of the call that is made so, with this number. */
 static void try(made *make, lent *l, uint32_t number, uint32_t answer) {
   int c = 0;
-  while (c < CALLS && calls[c].make != make) c++;
+  while (c < CALLS && !is_of(c, make, l)) c++;
   if (c == CALLS) {
     printf("a call that is tried is not among `calls`\n");
     exit(1);
@@ -213,15 +228,22 @@ static void build_worst(lent *l, size_t rows) {
   }
 }
 
-/* Runs of the whole length, and the record of a shape with so many of its 512 rows in use. */
-static void build_shape(lent *l, int shape, size_t rows) {
-  l->shape = shapes[shape];
+/* Runs of the whole length for a record of this name. */
+static void begin(lent *l, const char *shape, const char *state, int windows) {
+  l->shape = shape;
+  l->state = state;
+  l->windows = windows;
   l->n = WORDS;
   l->first_n = 4 * ROWS;
   l->second_n = ROWS;
   l->bytes_n = BYTES;
+}
+
+/* The record of a shape with so many of its 512 rows in use, and its root frame. */
+static void build_shape(lent *l, int shape, size_t rows) {
   if (shape == WORST) build_worst(l, rows);
   else build_called(l, shape, rows);
+  l->root = row(l, 0)[1];
 }
 
 /* What becomes of a shape: with a row left; with all rows in use; with a navigation from its last document, or from its root's, for the
@@ -238,21 +260,80 @@ static void mix(lent *l) {
   }
 }
 
+/* No number left for a document or a frame. */
+static void use_up(lent *l) { l->words[1] = l->words[2] = NONE; }
+
+/* Goes all the way back in the window of this root frame. */
+static void go_back(lent *l, uint32_t root) {
+  l->root = root;
+  build(traverse, l, -build(position, l, 0));
+}
+
 static void build_state(lent *l, int shape, int state) {
-  l->state = states[state];
+  begin(l, shapes[shape], states[state], ONE);
   build_shape(l, shape, state == FULL ? ROWS : ROWS - 1);
   if (state == STEPPED || state == BACK) build(navigate, l, last(l)[0]);
   if (state == HIDDEN) build(navigate, l, row(l, 0)[0]);
-  if (state == BACK) build(traverse, l, -build(position, l, 0));
-  if (state == USED_UP) l->words[1] = l->words[2] = NONE;
+  if (state == BACK) go_back(l, l->root);
+  if (state == USED_UP) use_up(l);
   if (state == MIXED) mix(l);
 }
 
-/* How many levels of documents are visible, by the outline. */
+/* Shapes of several windows: a main window of three frames and a card of two, the frames beneath their roots navigated in turn; every row a
+   window; and a card beside a window whose every row is a frame beneath the row before it. */
+enum { TURN, CARDS, BESIDE, WINDOW_SHAPES };
+static const char *const window_shapes[] = {"two windows in turn", "every row a window", "a card beside deep"};
+
+/* What becomes of one of them: with a row left; with all rows in use; with a row left and the first window gone all the way back, so that the rows
+   as a whole are not in order; with a row left and no number; with a row left and numbers that do not rise, and the first window gone back. */
+enum { LEFT, FILLED, APART, NO_NUMBER, NOT_RISING, WINDOW_STATES };
+static const char *const window_states[] = {"a row left", "full", "the first window back", "no number left", "numbers mixed"};
+
+/* Two windows in turn, of so many rows. */
+static void build_turn(lent *l, size_t rows) {
+  uint32_t latest[3];
+  build(fresh, l, 0);
+  latest[0] = build(open, l, 0);
+  latest[1] = build(open, l, 0);
+  latest[2] = build(open, l, build(tab, l, 0));
+  for (size_t i = 5; i < rows; i++) latest[i % 3] = build(navigate, l, latest[i % 3]);
+}
+
+/* The other two shapes of several windows. */
+static void build_cards(lent *l, int shape, size_t rows) {
+  build(fresh, l, 0);
+  uint32_t end = build(tab, l, 0);
+  for (size_t i = 2; i < rows; i++) end = shape == CARDS ? build(tab, l, 0) : build(open, l, end);
+}
+
+/* A record of several windows. */
+static void build_windows(lent *l, int shape, int state) {
+  begin(l, window_shapes[shape], window_states[state], SEVERAL);
+  if (shape == TURN) build_turn(l, state == FILLED ? ROWS : ROWS - 1);
+  else build_cards(l, shape, state == FILLED ? ROWS : ROWS - 1);
+  if (state == APART || state == NOT_RISING) go_back(l, row(l, 0)[1]);
+  if (state == NO_NUMBER) use_up(l);
+  if (state == NOT_RISING) mix(l);
+}
+
+/* The latest row that has no parent. */
+static uint32_t *last_top(lent *l) {
+  uint32_t *at = last(l);
+  while (at[2] != NONE) at -= 4;
+  return at;
+}
+
+/* How many levels of documents are visible in the window, by its outline. */
 static void count_levels(lent *l) {
   uint32_t pairs = build(outline, l, 0), depth = 0;
   for (uint32_t i = 0; i < pairs; i++) if (depth < l->first[2 * i]) depth = l->first[2 * i];
   l->levels = depth + 1;
+}
+
+/* Tab, which makes no room and needs a row and both numbers. */
+static void on_tab(lent *l) {
+  uint32_t used_up = l->words[1] == NONE ? FRAME_HISTORY_USED_UP : 0;
+  try(tab, l, 0, l->words[0] == ROWS ? FRAME_HISTORY_FULL : used_up);
 }
 
 /* Open and Navigate from the last document, Navigate from the second where all steps are upcoming, and both from a document that is hidden
@@ -309,6 +390,17 @@ static void on_traverse(lent *l) {
   }
 }
 
+/* The calls that name a window, by the next frame number, by none, and by the last row's frame where that is no root frame. */
+static void on_no_window(lent *l) {
+  made *const all[] = {traverse, traverse_rows, position, lists, outline};
+  uint32_t root = l->root, others[] = {l->words[2], NONE, last(l)[1]};
+  for (int i = 0; i < (last(l)[2] == NONE ? 2 : 3); i++) {
+    l->root = others[i];
+    for (int c = 0; c < 5; c++) try(all[c], l, 0, FRAME_HISTORY_NO_WINDOW);
+  }
+  l->root = root;
+}
+
 /* Position; Visible of the last document, the one before it, the root's, and one that is not there. */
 static void on_asking(lent *l) {
   try(position, l, 0, 0);
@@ -334,14 +426,18 @@ static void on_lists(lent *l) {
   l->second_n = ROWS;
 }
 
-/* Outline and Save likewise. */
-static void on_writing(lent *l) {
+/* Outline likewise. */
+static void on_outline(lent *l) {
   try(outline, l, 0, 0);
   l->first_n = 2 * build(outline, l, 0);
   try(outline, l, 0, 0);
   l->first_n--;
   try(outline, l, 0, FRAME_HISTORY_SHORT_BUFFER);
   l->first_n = 4 * ROWS;
+}
+
+/* Save likewise. */
+static void on_save(lent *l) {
   try(save, l, 0, 0);
   l->bytes_n = build(save, l, 0);
   try(save, l, 0, 0);
@@ -396,15 +492,16 @@ static size_t to_old(lent *l) {
 }
 
 /* Both loading calls: Load on what Save writes, with a place twice too; the other on the same bytes, and on those of the old form, which only records
-   have whose numbers rise. */
-static void on_load(lent *l, int state) {
+   of one window have whose numbers rise. */
+static void on_load(lent *l, int rises) {
   size_t length = build(save, l, 0), bodies = 12 + 16 * get(l->bytes);
   on_bytes(load, l, length, 8);
   on_changed(load, l, bodies + 4, 1);
   try(load_old, l, 0, FRAME_HISTORY_NOT_SAVED);
   length = to_old(l);
-  if (state != MIXED) on_bytes(load_old, l, length, 4);
+  if (rises && l->windows == ONE) on_bytes(load_old, l, length, 4);
   l->bytes_n = length;
+  if (l->windows == SEVERAL) try(load_old, l, 0, FRAME_HISTORY_NOT_SAVED);
   try(load, l, 0, FRAME_HISTORY_NOT_SAVED);
   l->bytes_n = BYTES;
 }
@@ -457,18 +554,56 @@ static void on_places(lent *l) {
   if (end != l->places) on_store(l, last(l)[0], FRAME_HISTORY_BAD_PLACES);
 }
 
-/* Every call on a sound record. */
+/* Every call on a sound record of one window. */
 static void on_sound(lent *l, int state) {
   count_levels(l);
   try(fresh, l, 0, 0);
+  on_tab(l);
   on_growing(l, state);
   on_drop(l, state);
   on_replace(l, state);
   on_traverse(l);
   on_asking(l);
   on_lists(l);
-  on_writing(l);
-  on_load(l, state);
+  on_outline(l);
+  on_no_window(l);
+  on_save(l);
+  on_load(l, state != MIXED);
+  on_places(l);
+}
+
+/* Open, Navigate and Replace of this document, by whether it is visible and what is left. */
+static void on_document(lent *l, uint32_t document) {
+  uint32_t hidden = build(visible, l, document) ? 0 : FRAME_HISTORY_HIDDEN;
+  uint32_t used_up = l->words[1] == NONE ? FRAME_HISTORY_USED_UP : 0;
+  uint32_t full = l->words[0] == ROWS ? FRAME_HISTORY_FULL : used_up;
+  try(open, l, document, hidden ? hidden : full);
+  try(navigate, l, document, hidden ? hidden : full);
+  try(replace, l, document, hidden ? hidden : used_up);
+}
+
+/* Every call on a sound record of several windows; those that name one, of the first and of the last. */
+static void on_windows(lent *l, int state) {
+  const uint32_t roots[] = {row(l, 0)[1], last_top(l)[1]};
+  try(fresh, l, 0, 0);
+  on_tab(l);
+  on_document(l, row(l, 0)[0]);
+  on_document(l, last_top(l)[0]);
+  on_document(l, last(l)[0]);
+  try(drop, l, roots[0], FRAME_HISTORY_ROOT_FRAME);
+  try(drop, l, roots[1], FRAME_HISTORY_ROOT_FRAME);
+  if (last(l)[2] != NONE) try(drop, l, last(l)[1], 0);
+  for (int r = 0; r < 2; r++) {
+    l->root = roots[r];
+    count_levels(l);
+    on_traverse(l);
+    on_asking(l);
+    on_lists(l);
+    on_outline(l);
+    on_no_window(l);
+  }
+  on_save(l);
+  on_load(l, state != NOT_RISING);
   on_places(l);
 }
 
@@ -476,7 +611,7 @@ static void on_sound(lent *l, int state) {
 static void on_unsound(lent *l, uint32_t *word, uint32_t v) {
   uint32_t was = *word;
   *word = v;
-  for (int c = 0; c < CALLS; c++) if (calls[c].begins == 2) try(calls[c].make, l, row(l, 0)[0], FRAME_HISTORY_UNSOUND);
+  for (int c = 0; c < CALLS; c++) if (calls[c].begins == 2 && is_of(c, calls[c].make, l)) try(calls[c].make, l, row(l, 0)[0], FRAME_HISTORY_UNSOUND);
   *word = was;
 }
 
@@ -493,11 +628,20 @@ static void on_damaged(lent *l) {
   if (l->words[0] < ROWS) on_unsound(l, l->words + WORDS - 1, 1);
 }
 
+/* Those on two windows in turn where a frame of the first is gone back by itself: that window has upcoming steps before a shown one. */
+static void on_crossed(lent *l) {
+  uint32_t frame = row(l, 1)[1], *shown = last(l);
+  while (shown[1] != frame || shown[3] == 0) shown -= 4;
+  shown[3] = 0;
+  on_unsound(l, row(l, 1) + 3, 1);
+  shown[3] = 1;
+}
+
 /* Every call that is lent a record, on one that is too short; and Stretch, which is lent none. */
 static void on_others(lent *l) {
   l->state = "six words";
   l->n = 6;
-  for (int c = 0; c < CALLS; c++) if (calls[c].begins > 0) try(calls[c].make, l, 0, FRAME_HISTORY_SHORT_RECORD);
+  for (int c = 0; c < CALLS; c++) if (calls[c].begins > 0 && is_of(c, calls[c].make, l)) try(calls[c].make, l, 0, FRAME_HISTORY_SHORT_RECORD);
   l->shape = "two lists";
   l->state = "512 entries each";
   l->first_n = ROWS;
@@ -525,9 +669,16 @@ int main(void) {
       on_sound(&l, state);
       if (state == SPARE || state == FULL || state == BACK || state == MIXED) on_damaged(&l);
     }
-  l.shape = "fresh";
-  l.state = "room for 512 rows";
+  for (int shape = 0; shape < WINDOW_SHAPES; shape++)
+    for (int state = 0; state < WINDOW_STATES; state++) {
+      build_windows(&l, shape, state);
+      on_windows(&l, state);
+      if (state != NO_NUMBER) on_damaged(&l);
+      if (shape == TURN && state == LEFT) on_crossed(&l);
+    }
+  begin(&l, "fresh", "room for 512 rows", ONE);
   build(fresh, &l, 0);
+  l.root = 0;
   on_sound(&l, SPARE);
   on_others(&l);
   for (int c = 0; c < CALLS; c++) print(c);

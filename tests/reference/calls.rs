@@ -4,6 +4,7 @@ use crate::history::History;
 use crate::record::{capacity, rows, write, Row, FEWEST_WORDS, NONE};
 use crate::saved::{bytes_of, old_record_of, record_of};
 use crate::sound::is_sound;
+use crate::windows::{root_frames, windows};
 
 /// A refusal's number; and "refusal 5 [..] carries that number too", of the document that hides the one asked for.
 #[derive(Clone, Copy, Debug, PartialEq, Eq)]
@@ -33,13 +34,20 @@ pub(crate) fn refuse_when(number: u32, given: bool) -> Answer<()> {
     if given { no(number) } else { Ok(()) }
 }
 
-/// Refusals 1 and 2, then the history that stands in the record.
+/// Refusals 1 and 2, then what stands in the record, all windows side by side.
 pub(crate) fn examined(words: &[u32]) -> Answer<History> {
     refuse_when(1, words.len() < FEWEST_WORDS)?;
     refuse_when(2, !is_sound(words))?;
-    let history = History::of(&rows(words));
-    assert!(history.well_formed(), "S7 is definition 5");
-    Ok(history)
+    let rows = rows(words);
+    assert!(windows(&rows).values().all(|own| History::of(own).well_formed()), "S7 is definition 5 of each window");
+    Ok(History::of(&rows))
+}
+
+/// Refusals 1, 2 and 13, "when no root frame has that number, after 2"; then the history of that window, which is that of its own rows.
+fn window(words: &[u32], root: u32) -> Answer<History> {
+    examined(words)?;
+    let own = windows(&rows(words)).remove(&root).ok_or(13u32)?;
+    Ok(History::of(&own))
 }
 
 /// Refusals 4 and 5, then the place of the document.
@@ -64,10 +72,20 @@ pub fn fresh(words: &mut [u32]) -> Answer<()> {
 pub fn open(words: &mut [u32], parent: u32) -> Answer<(u32, u32)> {
     let history = examined(words)?;
     visible_place(&history, parent)?;
-    let (document, frame) = (words[1], words[2]);
-    refuse_when(7, history.documents.len() == capacity(words.len()))?;
+    append(words, parent)
+}
+
+/// "Opening a window appends a root row with new numbers." Answers the new document number and the new root frame's number.
+pub fn tab(words: &mut [u32]) -> Answer<(u32, u32)> {
+    examined(words)?;
+    append(words, NONE)
+}
+
+/// Refusals 7 and 8, then a row with both next numbers under this parent, shown.
+fn append(words: &mut [u32], parent: u32) -> Answer<(u32, u32)> {
+    let (document, frame, mut rows) = (words[1], words[2], rows(words));
+    refuse_when(7, rows.len() == capacity(words.len()))?;
     refuse_when(8, document == NONE || frame == NONE)?;
-    let mut rows = history.rows();
     rows.push(Row { document, frame, parent, shown: 1 });
     write(words, document + 1, frame + 1, &rows);
     Ok((document, frame))
@@ -76,10 +94,12 @@ pub fn open(words: &mut [u32], parent: u32) -> Answer<(u32, u32)> {
 /// Answers the new document number.
 pub fn navigate(words: &mut [u32], from: u32) -> Answer<u32> {
     let mut history = examined(words)?;
-    visible_place(&history, from)?;
+    let place = visible_place(&history, from)?;
     let (document, next_frame) = (words[1], words[2]);
-    // Patch 4: "deleting the joint session future, and then replacing d by d'".
-    history.delete(&history.joint_future());
+    // Patch 4: "deleting the joint session future, and then replacing d by d'"; "the removal done by navigation [holds] per window".
+    let root_frames = root_frames(&history.rows());
+    let upcoming: Vec<usize> = history.joint_future().into_iter().filter(|&step| root_frames[step] == root_frames[place]).collect();
+    history.delete(&upcoming);
     refuse_when(7, history.documents.len() == capacity(words.len()))?;
     refuse_when(8, document == NONE)?;
     let place = history.place(from).expect("a visible document is not upcoming, nor beneath one that is");
@@ -88,9 +108,9 @@ pub fn navigate(words: &mut [u32], from: u32) -> Answer<u32> {
     Ok(document)
 }
 
-/// Answers how many change rows were written.
-pub fn traverse(words: &mut [u32], delta: i32, changes: &mut [u32]) -> Answer<u32> {
-    let before = examined(words)?;
+/// Traverses the window of this root frame. Answers how many change rows were written.
+pub fn traverse(words: &mut [u32], root: u32, delta: i32, changes: &mut [u32]) -> Answer<u32> {
+    let before = window(words, root)?;
     let (position, steps) = standing(&before);
     let target = position as i64 + delta as i64;
     refuse_when(6, target < 0 || target > steps as i64)?;
@@ -113,9 +133,15 @@ pub fn traverse(words: &mut [u32], delta: i32, changes: &mut [u32]) -> Answer<u3
         }
     }
     fill(changes, &written.concat())?;
-    let (next_document, next_frame) = (words[1], words[2]);
-    write(words, next_document, next_frame, &after.rows());
+    let (next_document, next_frame, rows) = (words[1], words[2], rows(words));
+    write(words, next_document, next_frame, &with_window(&rows, &after));
     Ok(written.len() as u32)
+}
+
+/// The rows with those of a window as its history has them; all others stay "as they were and in their order".
+fn with_window(rows: &[Row], window: &History) -> Vec<Row> {
+    let own = window.rows();
+    rows.iter().map(|row| *own.iter().find(|new| new.document == row.document).unwrap_or(row)).collect()
 }
 
 /// "removal of a frame by its number: all its rows and all beneath them go, gaps close in order, the rest keeps its flags".
@@ -123,7 +149,7 @@ pub fn traverse(words: &mut [u32], delta: i32, changes: &mut [u32]) -> Answer<u3
 pub fn drop_frame(words: &mut [u32], frame: u32) -> Answer<u32> {
     let mut history = examined(words)?;
     let own = history.of_session(frame);
-    // "4 for a frame not in the record [..] 10 for the root frame; 10 comes after 4 and before 5".
+    // "4 for a frame not in the record [..] 10 for the root frame; 10 comes after 4 and before 5"; "Removing any root frame is refused 10."
     let first = *own.first().ok_or(4u32)?;
     let holder = history.documents[first].parent.ok_or(10u32)?;
     // "The document that holds the frame must be visible"; "for removal, that of the parent's climb".
@@ -151,15 +177,15 @@ pub fn replace(words: &mut [u32], document: u32) -> Answer<u32> {
     Ok(new)
 }
 
-/// Position and steps of a history.
+/// Position and steps of a window's history.
 fn standing(history: &History) -> (u32, u32) {
     let steps = (0..history.documents.len()).filter(|&d| history.can_go_back(d)).count();
     (history.taken().len() as u32, steps as u32)
 }
 
-/// Answers position, steps, and length for scripts, which counts the current entry too: "it is steps plus one".
-pub fn position(words: &[u32]) -> Answer<(u32, u32, u32)> {
-    let (position, steps) = standing(&examined(words)?);
+/// Answers position, steps, and length for scripts of the window of this root frame; length counts the current entry too: "it is steps plus one".
+pub fn position(words: &[u32], root: u32) -> Answer<(u32, u32, u32)> {
+    let (position, steps) = standing(&window(words, root)?);
     Ok((position, steps, steps + 1))
 }
 
@@ -193,9 +219,9 @@ fn sight(history: &History, document: u32) -> Sight {
     Sight { hiding, links }
 }
 
-/// Answers the counts of taken and of upcoming steps.
-pub fn lists(words: &[u32], taken: &mut [u32], upcoming: &mut [u32]) -> Answer<(u32, u32)> {
-    let history = examined(words)?;
+/// Answers the counts of taken and of upcoming steps of the window of this root frame.
+pub fn lists(words: &[u32], root: u32, taken: &mut [u32], upcoming: &mut [u32]) -> Answer<(u32, u32)> {
+    let history = window(words, root)?;
     let numbers = |places: Vec<usize>| places.iter().map(|&place| history.documents[place].number).collect::<Vec<_>>();
     let (past, future) = (numbers(history.taken()), numbers(history.joint_future()));
     refuse_when(9, taken.len() < past.len() || upcoming.len() < future.len())?;
@@ -210,13 +236,12 @@ pub fn stretch<'a>(taken: &'a [u32], upcoming: &'a [u32], delta: i32) -> Answer<
     list.get(..delta.unsigned_abs() as usize).ok_or(6.into())
 }
 
-/// Answers the count of pairs (depth, document).
-pub fn outline(words: &[u32], pairs: &mut [u32]) -> Answer<u32> {
-    let history = examined(words)?;
-    let root = history.documents.iter().find(|d| d.active && d.parent.is_none()).expect("the root frame shows a document");
+/// Answers the count of pairs (depth, document) of the window of this root frame.
+pub fn outline(words: &[u32], root: u32, pairs: &mut [u32]) -> Answer<u32> {
+    let history = window(words, root)?;
     let mut found = Vec::new();
-    outline_document(&history, root.number, 0, &mut found);
-    assert_eq!(found.len(), history.fully_active().len(), "the outline holds the visible documents");
+    outline_document(&history, history.shown_in(root), 0, &mut found);
+    assert_eq!(found.len(), history.fully_active().len(), "the outline holds the window's visible documents");
     fill(pairs, &found.concat())?;
     Ok(found.len() as u32)
 }

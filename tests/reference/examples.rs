@@ -61,10 +61,15 @@ fn sees(links: u32) -> Answer<Sight> {
     Ok(Sight { hiding: None, links })
 }
 
-/// Traverse with ample room: the answer and the change rows.
+/// Traverse of window 0 with ample room: the change rows.
 fn go(words: &mut [u32], delta: i32) -> Answer<Vec<u32>> {
+    go_in(words, 0, delta)
+}
+
+/// The same of the window of this root frame.
+fn go_in(words: &mut [u32], root: u32, delta: i32) -> Answer<Vec<u32>> {
     let mut changes = vec![77; 64];
-    let count = traverse(words, delta, &mut changes)? as usize;
+    let count = traverse(words, root, delta, &mut changes)? as usize;
     assert!(changes[4 * count..].iter().all(|&word| word == 77), "further rows keep what they held");
     changes.truncate(4 * count);
     Ok(changes)
@@ -77,12 +82,18 @@ pub fn check_all() -> u32 {
     drop_examples(&mut checks);
     hiding_examples(&mut checks);
     replace_examples(&mut checks);
+    tab_examples(&mut checks);
+    turn_examples(&mut checks);
+    upcoming_examples(&mut checks);
+    beneath_examples(&mut checks);
+    root_examples(&mut checks);
     place_examples(&mut checks);
     freeing_examples(&mut checks);
     zoom_examples(&mut checks);
     saved_examples(&mut checks);
     replaced_saved_examples(&mut checks);
     old_saved_examples(&mut checks);
+    windows_saved_examples(&mut checks);
     sound_clauses(&mut checks);
     script_examples(&mut checks);
     checks.held
@@ -91,7 +102,7 @@ pub fn check_all() -> u32 {
 fn numbered_examples(c: &mut Checks) {
     let x = record_x();
     c.same("P1 sound", is_sound(&x), true);
-    c.same("P1 position", position(&x), Ok((1, 2, 3)));
+    c.same("P1 position", position(&x, 0), Ok((1, 2, 3)));
     c.same("P1 visible", visible_documents(&x), vec![0, 1, 3, 4]);
 
     let mut p2 = x.clone();
@@ -112,7 +123,7 @@ fn numbered_examples(c: &mut Checks) {
     let mut p6 = x.clone();
     c.same("P6 number", navigate(&mut p6, 1), Ok(6));
     c.same("P6 documents", documents(&p6), vec![0, 1, 2, 3, 4, 6]);
-    c.same("P6 position", position(&p6), Ok((2, 2, 3)));
+    c.same("P6 position", position(&p6, 0), Ok((2, 2, 3)));
     c.same("P6 visible", visible_documents(&p6), vec![0, 3, 6]);
     c.same("P7 change rows", go(&mut p6, -1), Ok(vec![1, 6, 1, 1]));
     c.same("P7 visible", visible_documents(&p6), vec![0, 1, 3, 4]);
@@ -125,7 +136,7 @@ fn numbered_examples(c: &mut Checks) {
 
     let p9 = record(8, 5, 3, &[[0, 0, NONE, 1], [1, 1, 0, 1], [2, 2, 0, 0], [3, 1, 0, 0], [4, 2, 0, 1]]);
     c.same("P9 clause", broken(&p9), vec![7]);
-    c.same("P9 refused", position(&p9), no(2));
+    c.same("P9 refused", position(&p9, 0), no(2));
     c.same("P9 is not well formed", History::of(&rows(&p9)).well_formed(), false);
 
     let mut p10 = fresh_record(8);
@@ -160,22 +171,22 @@ fn small_examples(c: &mut Checks) {
 
     let x = record_x();
     let (mut taken, mut upcoming) = ([8; 3], [9; 1]);
-    c.same("lists of X", lists(&x, &mut taken, &mut upcoming), Ok((1, 1)));
+    c.same("lists of X", lists(&x, 0, &mut taken, &mut upcoming), Ok((1, 1)));
     c.same("taken, the rest kept", taken, [4, 8, 8]);
     c.same("upcoming", upcoming, [5]);
-    c.same("no room for taken", lists(&x, &mut [], &mut upcoming), no(9));
-    c.same("no room for upcoming", lists(&x, &mut taken, &mut []), no(9));
+    c.same("no room for taken", lists(&x, 0, &mut [], &mut upcoming), no(9));
+    c.same("no room for upcoming", lists(&x, 0, &mut taken, &mut []), no(9));
     c.same("stretch forward", stretch(&[1, 2], &[3, 4, 5], 2), Ok(&[3, 4][..]));
     c.same("stretch by nothing", stretch(&[1, 2], &[], 0), Ok(&[][..]));
     c.same("stretch back", stretch(&[1, 2], &[3], -2), Ok(&[1, 2][..]));
     c.same("stretch too far back", stretch(&[1, 2], &[3, 4, 5], -3), no(6));
     c.same("stretch by the least number", stretch(&[1, 2], &[3], i32::MIN), no(6));
     let mut pairs = [6; 9];
-    c.same("outline of X", outline(&x, &mut pairs), Ok(4));
+    c.same("outline of X", outline(&x, 0, &mut pairs), Ok(4));
     c.same("pairs", pairs, [0, 0, 1, 1, 2, 4, 1, 3, 6]);
-    c.same("outline in seven words", outline(&x, &mut pairs[..7]), no(9));
-    c.same("no change row lent", traverse(&mut x.clone(), 1, &mut [0; 3]), no(9));
-    c.same("nothing to change", traverse(&mut x.clone(), 0, &mut []), Ok(0));
+    c.same("outline in seven words", outline(&x, 0, &mut pairs[..7]), no(9));
+    c.same("no change row lent", traverse(&mut x.clone(), 0, 1, &mut [0; 3]), no(9));
+    c.same("nothing to change", traverse(&mut x.clone(), 0, 0, &mut []), Ok(0));
     c.same("not a document", visible(&x, NONE), no(4));
 
     for (next_document, next_frame, wanted) in [(NONE, 4, no(8)), (6, NONE, no(8)), (NONE - 1, NONE - 1, Ok((NONE - 1, NONE - 1)))] {
@@ -202,18 +213,18 @@ fn drop_examples(c: &mut Checks) {
     let (removed, words) = after(1, x.clone());
     c.same("X drop 1: 1 and 5, and 2 and 4 beneath 1", removed, Ok(4));
     c.same("X drop 1 words", words.clone(), record(8, 6, 4, &[root, third]));
-    c.same("X drop 1 position", position(&words), Ok((0, 0, 1)));
+    c.same("X drop 1 position", position(&words, 0), Ok((0, 0, 1)));
     c.same("X drop 1 visible", visible_documents(&words), vec![0, 3]);
 
     let (removed, words) = after(2, x.clone());
     c.same("X drop 2: 2 and 4", removed, Ok(2));
     c.same("X drop 2 words", words.clone(), record(8, 6, 4, &[root, list, third, later]));
-    c.same("X drop 2: position falls by the step taken, 5 stays upcoming", position(&words), Ok((0, 1, 2)));
+    c.same("X drop 2: position falls by the step taken, 5 stays upcoming", position(&words, 0), Ok((0, 1, 2)));
     c.same("X drop 2 visible", visible_documents(&words), vec![0, 1, 3]);
 
     let (removed, words) = after(3, x.clone());
     c.same("X drop 3", removed, Ok(1));
-    c.same("X drop 3: no step goes", position(&words), Ok((1, 2, 3)));
+    c.same("X drop 3: no step goes", position(&words, 0), Ok((1, 2, 3)));
 
     let mut forward = x.clone();
     go(&mut forward, 1).unwrap();
@@ -301,7 +312,7 @@ fn replace_examples(c: &mut Checks) {
     let (new, mut login) = after(0, fresh_record(4));
     c.same("the login page gives way", new, Ok(1));
     c.same("in its own row", login.clone(), record(4, 2, 1, &[[1, 0, NONE, 1]]));
-    c.same("no step", position(&login), Ok((0, 0, 1)));
+    c.same("no step", position(&login, 0), Ok((0, 0, 1)));
     c.same("back: nothing is there", go(&mut login, -1), no(6));
     c.same("the login page is gone", visible(&login, 0), no(4));
     c.same("a link", navigate(&mut login, 1), Ok(2));
@@ -310,7 +321,7 @@ fn replace_examples(c: &mut Checks) {
     let (new, mut words) = after(1, x.clone());
     c.same("X replace 1: 2 and 4 beneath it go", new, Ok(6));
     c.same("X replace 1 words", words.clone(), record(8, 7, 4, &[root, [6, 1, 0, 1], third, later]));
-    c.same("X replace 1: position falls by 4, and 5 stays upcoming in its frame", position(&words), Ok((0, 1, 2)));
+    c.same("X replace 1: position falls by 4, and 5 stays upcoming in its frame", position(&words, 0), Ok((0, 1, 2)));
     c.same("X replace 1 visible", visible_documents(&words), vec![0, 6, 3]);
     c.same("X replace 1: a new number beneath earlier ones is sound", is_sound(&words), true);
     c.same("X replace 1 and forward", go(&mut words, 1), Ok(vec![1, 6, 5, 1]));
@@ -320,15 +331,15 @@ fn replace_examples(c: &mut Checks) {
     let (second, fourth) = ([2, 2, 1, 0], [4, 2, 1, 1]);
     c.same("X replace 3", new, Ok(6));
     c.same("X replace 3 words", words.clone(), record(8, 7, 4, &[root, list, second, [6, 3, 0, 1], fourth, later]));
-    c.same("X replace 3: a step taken and one upcoming in other frames stay", position(&words), Ok((1, 2, 3)));
+    c.same("X replace 3: a step taken and one upcoming in other frames stay", position(&words, 0), Ok((1, 2, 3)));
     c.same("X replace 3 once more", replace(&mut words, 6), Ok(7));
     c.same("X replace 3 twice words", words.clone(), record(8, 8, 4, &[root, list, second, [7, 3, 0, 1], fourth, later]));
     c.same("the one between is gone", replace(&mut words, 6), no(4));
     let (mut taken, mut upcoming) = ([0; 1], [0; 1]);
-    c.same("X replace 3 twice lists", lists(&words, &mut taken, &mut upcoming), Ok((1, 1)));
+    c.same("X replace 3 twice lists", lists(&words, 0, &mut taken, &mut upcoming), Ok((1, 1)));
     c.same("X replace 3 twice steps", (taken, upcoming), ([4], [5]));
     let mut pairs = [0; 8];
-    c.same("X replace 3 twice outline", outline(&words, &mut pairs), Ok(4));
+    c.same("X replace 3 twice outline", outline(&words, 0, &mut pairs), Ok(4));
     c.same("by frames, whatever the numbers", pairs, [0, 0, 1, 1, 2, 4, 1, 7]);
     c.same("X replace 3 twice and forward", go(&mut words, 1), Ok(vec![1, 1, 5, 1]));
     c.same("open under what replaced it", open(&mut words, 7), Ok((8, 4)));
@@ -336,7 +347,7 @@ fn replace_examples(c: &mut Checks) {
     let (new, words) = after(4, x.clone());
     c.same("X replace 4, which is a step taken", new, Ok(6));
     c.same("X replace 4 words", words.clone(), record(8, 7, 4, &[root, list, second, third, [6, 2, 1, 1], later]));
-    c.same("X replace 4: the step stays one", position(&words), Ok((1, 2, 3)));
+    c.same("X replace 4: the step stays one", position(&words, 0), Ok((1, 2, 3)));
 
     let (new, words) = after(0, x.clone());
     c.same("X replace 0: all the others are beneath it", new, Ok(6));
@@ -376,6 +387,238 @@ fn replace_examples(c: &mut Checks) {
     c.same("no frame number is needed", after(1, frames_used).0, Ok(6));
     c.same("six words", replace(&mut [9; 6], 0), no(1));
     c.same("X with a row too many", replace(&mut [&[7], &x[1..]].concat(), 0), no(2));
+}
+
+/// The two lists of a window, each just as long as its count says.
+fn steps_of(words: &[u32], root: u32) -> Answer<(Vec<u32>, Vec<u32>)> {
+    let (mut taken, mut upcoming) = (vec![77; 16], vec![77; 16]);
+    let (taken_count, upcoming_count) = lists(words, root, &mut taken, &mut upcoming)?;
+    taken.truncate(taken_count as usize);
+    upcoming.truncate(upcoming_count as usize);
+    Ok((taken, upcoming))
+}
+
+/// The pairs of a window's outline.
+fn outline_of(words: &[u32], root: u32) -> Answer<Vec<u32>> {
+    let mut pairs = vec![77; 32];
+    let count = outline(words, root, &mut pairs)? as usize;
+    pairs.truncate(2 * count);
+    Ok(pairs)
+}
+
+/// L10: "Opening a window appends a root row with new numbers"; "opening a window gives 1, 2, 7 and 8".
+fn tab_examples(c: &mut Checks) {
+    let (main, card) = ([0, 0, NONE, 1], [1, 1, NONE, 1]);
+    let mut words = fresh_record(4);
+    c.same("a window beside the first", tab(&mut words), Ok((1, 1)));
+    c.same("its words", words.clone(), record(4, 2, 2, &[main, card]));
+    c.same("the first window stands at its start", position(&words, 0), Ok((0, 0, 1)));
+    c.same("and so does the new one", position(&words, 1), Ok((0, 0, 1)));
+    c.same("the first window's outline", outline_of(&words, 0), Ok(vec![0, 0]));
+    c.same("the new one's, at depth 0 too", outline_of(&words, 1), Ok(vec![0, 1]));
+    c.same("visible in both", visible_documents(&words), vec![0, 1]);
+    c.same("with no link up to the first", visible(&words, 1), sees(0));
+    c.same("a third window", tab(&mut words), Ok((2, 2)));
+    c.same("the second root frame cannot be taken out", drop_frame(&mut words, 1), no(10));
+    c.same("nor the third, nor the first", (drop_frame(&mut words, 2), drop_frame(&mut words, 0)), (no(10), no(10)));
+    c.same("not a frame", drop_frame(&mut words, 3), no(4));
+    c.same("a frame in the second window", open(&mut words, 1), Ok((3, 3)));
+    c.same("all rows", words.clone(), record(4, 4, 4, &[main, card, [2, 2, NONE, 1], [3, 3, 1, 1]]));
+    c.same("full", tab(&mut words), no(7));
+    c.same("as it was", words, record(4, 4, 4, &[main, card, [2, 2, NONE, 1], [3, 3, 1, 1]]));
+
+    let x = record_x();
+    let mut beside_x = x.clone();
+    c.same("beside X", tab(&mut beside_x), Ok((6, 4)));
+    let rows = [[0, 0, NONE, 1], [1, 1, 0, 1], [2, 2, 1, 0], [3, 3, 0, 1], [4, 2, 1, 1], [5, 1, 0, 0], [6, 4, NONE, 1]];
+    c.same("X's upcoming step stays", beside_x.clone(), record(8, 7, 5, &rows));
+    c.same("X stands where it stood", (position(&beside_x, 0), steps_of(&beside_x, 0)), (Ok((1, 2, 3)), Ok((vec![4], vec![5]))));
+    c.same("its outline", outline_of(&beside_x, 0), Ok(vec![0, 0, 1, 1, 2, 4, 1, 3]));
+
+    for (next_document, next_frame, wanted) in [(NONE, 4, no(8)), (6, NONE, no(8)), (NONE - 1, NONE - 1, Ok((NONE - 1, NONE - 1)))] {
+        let mut words = x.clone();
+        words[1..3].copy_from_slice(&[next_document, next_frame]);
+        c.same("a window near the last number", tab(&mut words), wanted);
+    }
+    c.same("six words", tab(&mut [9; 6]), no(1));
+    c.same("X with a row too many", tab(&mut [&[7], &x[1..]].concat()), no(2));
+    c.same("7 before 8", tab(&mut [1, NONE, NONE, 0, 0, NONE, 1]), no(7));
+}
+
+/// Two windows navigated in turn, two steps each.
+fn in_turn() -> Vec<u32> {
+    let mut words = fresh_record(8);
+    tab(&mut words).unwrap();
+    [0, 1, 2, 3].into_iter().for_each(|from| assert_eq!(navigate(&mut words, from), Ok(from + 2)));
+    words
+}
+
+/// L10: "S7, position, steps, traversal [..] hold per window"; "a call on one window leaves the other's rows as they were and in their order".
+fn turn_examples(c: &mut Checks) {
+    let flags = |shown: [u32; 6]| {
+        let row = |document: u32| [document, document % 2, NONE, shown[document as usize]];
+        record(8, 6, 2, &[row(0), row(1), row(2), row(3), row(4), row(5)])
+    };
+    let mut words = in_turn();
+    c.same("in turn", words.clone(), flags([0, 0, 0, 0, 1, 1]));
+    c.same("the first window's steps alone", (position(&words, 0), steps_of(&words, 0)), (Ok((2, 2, 3)), Ok((vec![4, 2], vec![]))));
+    c.same("the second one's", (position(&words, 1), steps_of(&words, 1)), (Ok((2, 2, 3)), Ok((vec![5, 3], vec![]))));
+    c.same("too far back, though both have four steps", go_in(&mut words, 0, -3), no(6));
+
+    c.same("back in the first", go_in(&mut words, 0, -1), Ok(vec![0, 4, 2, 1]));
+    c.same("the second shows what it showed", words.clone(), flags([0, 0, 1, 0, 0, 1]));
+    c.same("the first stands lower", (position(&words, 0), steps_of(&words, 0)), (Ok((1, 2, 3)), Ok((vec![2], vec![4]))));
+    c.same("the second where it stood", (position(&words, 1), steps_of(&words, 1)), (Ok((2, 2, 3)), Ok((vec![5, 3], vec![]))));
+    c.same("outlines", (outline_of(&words, 0), outline_of(&words, 1)), (Ok(vec![0, 2]), Ok(vec![0, 5])));
+    c.same("visible in both", visible_documents(&words), vec![2, 5]);
+    c.same("forward in the second: nothing is there", go_in(&mut words, 1, 1), no(6));
+    c.same("sound by windows: 4 is upcoming, and 5, a later step, is shown", broken(&words), vec![]);
+    c.same("and not as one", History::of(&rows(&words)).well_formed(), false);
+    let mut one_window = words.clone();
+    [1, 3, 5].into_iter().for_each(|place| one_window[3 + 4 * place + 2] = 0);
+    c.same("nor in one window", broken(&one_window), vec![7]);
+
+    c.same("back in the second to its start", go_in(&mut words, 1, -2), Ok(vec![1, 5, 1, 1]));
+    c.same("the first shows what it showed", words.clone(), flags([0, 1, 1, 0, 0, 0]));
+    c.same("forward in the first", go_in(&mut words, 0, 1), Ok(vec![0, 2, 4, 1]));
+    c.same("the second stays at its start", words.clone(), flags([0, 1, 0, 0, 1, 0]));
+    c.same("by nothing", go_in(&mut words, 1, 0), Ok(vec![]));
+    c.same("forward in the second by all", go_in(&mut words, 1, 2), Ok(vec![1, 1, 5, 1]));
+    c.same("as they were", words, in_turn());
+
+    // P9's third frame, of 2 and 4, as a window: 3 is upcoming in the other one.
+    let p9 = record(8, 5, 3, &[[0, 0, NONE, 1], [1, 1, 0, 1], [2, 2, NONE, 0], [3, 1, 0, 0], [4, 2, NONE, 1]]);
+    c.same("P9 in two windows", broken(&p9), vec![]);
+    c.same("P9 in two windows: positions", (position(&p9, 0), position(&p9, 2)), (Ok((0, 1, 2)), Ok((1, 1, 2))));
+}
+
+/// L10: "the removal done by navigation [holds] per window".
+fn upcoming_examples(c: &mut Checks) {
+    // P10, a window with 2 upcoming and 3 beneath it, and beside it one with 5 upcoming and 6 beneath it.
+    let mut words = fresh_record(8);
+    open(&mut words, 0).and(navigate(&mut words, 0)).and(open(&mut words, 2)).and(go(&mut words, -1)).unwrap();
+    c.same("a card", tab(&mut words), Ok((4, 3)));
+    c.same("a link in it", navigate(&mut words, 4), Ok(5));
+    c.same("a frame there", open(&mut words, 5), Ok((6, 4)));
+    c.same("and back", go_in(&mut words, 3, -1), Ok(vec![3, 5, 4, 1]));
+    let (card, link, beneath) = ([4, 3, NONE, 1], [5, 3, NONE, 0], [6, 4, 5, 1]);
+    let rows = [[0, 0, NONE, 1], [1, 1, 0, 1], [2, 0, NONE, 0], [3, 2, 2, 1], card, link, beneath];
+    c.same("upcoming in both", words.clone(), record(8, 7, 5, &rows));
+    c.same("the steps of both", (steps_of(&words, 0), steps_of(&words, 3)), (Ok((vec![], vec![2])), Ok((vec![], vec![5]))));
+    c.same("a document of neither", navigate(&mut words, 9), no(4));
+    c.same("the next number", navigate(&mut words, 7), no(4));
+    c.same("upcoming in the second window", navigate(&mut words, 5), hidden_by(5));
+    c.same("beneath that", navigate(&mut words, 6), hidden_by(5));
+    c.same("as it was", words.clone(), record(8, 7, 5, &rows));
+
+    c.same("navigate in the first: 2 and 3 go, 5 and 6 stay", navigate(&mut words, 1), Ok(7));
+    c.same("its words", words.clone(), record(8, 8, 5, &[[0, 0, NONE, 1], [1, 1, 0, 0], card, link, beneath, [7, 1, 0, 1]]));
+    c.same("a step in the first", (position(&words, 0), position(&words, 3)), (Ok((1, 1, 2)), Ok((0, 1, 2))));
+    c.same("forward in the second", go_in(&mut words.clone(), 3, 1), Ok(vec![3, 4, 5, 1]));
+    c.same("back in the first", go_in(&mut words, 0, -1), Ok(vec![1, 7, 1, 1]));
+    c.same("navigate in the second: 5 and 6 go, 7 stays", navigate(&mut words, 4), Ok(8));
+    let rows = [[0, 0, NONE, 1], [1, 1, 0, 1], [4, 3, NONE, 0], [7, 1, 0, 0], [8, 3, NONE, 1]];
+    c.same("its words", words.clone(), record(8, 9, 5, &rows));
+    c.same("the steps of both", (steps_of(&words, 0), steps_of(&words, 3)), (Ok((vec![], vec![7])), Ok((vec![8], vec![]))));
+
+    // Three rows, of which one is upcoming in the first window.
+    let mut full = fresh_record(3);
+    navigate(&mut full, 0).and(tab(&mut full)).and(go(&mut full, -1)).unwrap();
+    let rows = [[0, 0, NONE, 1], [1, 0, NONE, 0], [2, 1, NONE, 1]];
+    c.same("full", full.clone(), record(3, 3, 2, &rows));
+    c.same("full: what is upcoming elsewhere makes no room", navigate(&mut full, 2), no(7));
+    c.same("full: nor for a frame or a window", (open(&mut full, 2), tab(&mut full)), (no(7), no(7)));
+    c.same("full, as it was", full.clone(), record(3, 3, 2, &rows));
+    c.same("full: it does in its own window", navigate(&mut full, 0), Ok(3));
+    c.same("full: 1 gone", full, record(3, 4, 2, &[[0, 0, NONE, 0], [2, 1, NONE, 1], [3, 0, NONE, 1]]));
+}
+
+/// Opening, removal and replacing in one window, and the climb, which ends at the window's own root.
+fn beneath_examples(c: &mut Checks) {
+    // X, and a card with a frame of two steps.
+    let mut words = record_x();
+    let x = words[3..3 + 4 * 6].to_vec();
+    words.resize(3 + 4 * 12, 0);
+    c.same("a card beside X", tab(&mut words), Ok((6, 4)));
+    c.same("a frame in it", open(&mut words, 6), Ok((7, 5)));
+    c.same("a link", navigate(&mut words, 7), Ok(8));
+    c.same("another", navigate(&mut words, 8), Ok(9));
+    let card = [[6, 4, NONE, 1], [7, 5, 6, 0], [8, 5, 6, 0], [9, 5, 6, 1]];
+    let beside_x = |next_document: u32, next_frame: u32, card: &[[u32; 4]]| {
+        let mut words = vec![0; 3 + 4 * 12];
+        words[..3].copy_from_slice(&[6 + card.len() as u32, next_document, next_frame]);
+        words[3..3 + 4 * 6].copy_from_slice(&x);
+        words[3 + 4 * 6..3 + 4 * (6 + card.len())].copy_from_slice(&card.concat());
+        words
+    };
+    c.same("X has its rows", words.clone(), beside_x(10, 6, &card));
+    c.same("X stands where it stood", position(&words, 0), Ok((1, 2, 3)));
+    c.same("the card's steps", (position(&words, 4), steps_of(&words, 4)), (Ok((2, 2, 3)), Ok((vec![9, 8], vec![]))));
+    c.same("the card's outline", outline_of(&words, 4), Ok(vec![0, 6, 1, 9]));
+    c.same("hidden by itself in the card", visible(&words, 8), hid(8, 0));
+    c.same("one link to the card's root", visible(&words, 9), sees(1));
+
+    let mut dropped = words.clone();
+    c.same("the card's frame taken out", drop_frame(&mut dropped, 5), Ok(3));
+    c.same("X stays", dropped.clone(), beside_x(10, 6, &card[..1]));
+    c.same("the card has no step", (position(&dropped, 0), position(&dropped, 4)), (Ok((1, 2, 3)), Ok((0, 0, 1))));
+    let mut dropped = words.clone();
+    c.same("X's frame taken out", drop_frame(&mut dropped, 1), Ok(4));
+    let left = [[0, 0, NONE, 1], [3, 3, 0, 1]];
+    c.same("the card stays", dropped, record(12, 10, 6, &[left.as_slice(), &card].concat()));
+
+    let mut replaced = words.clone();
+    c.same("the card's root document replaced", replace(&mut replaced, 6), Ok(10));
+    c.same("X stays", replaced.clone(), beside_x(11, 6, &[[10, 4, NONE, 1]]));
+    c.same("its root frame has its number", position(&replaced, 4), Ok((0, 0, 1)));
+    c.same("X's root document replaced", replace(&mut words, 0), Ok(10));
+    c.same("the card stays", words.clone(), record(12, 11, 6, &[[[10, 0, NONE, 1]].as_slice(), &card].concat()));
+
+    // The root frame of the card has steps of its own too, which hide what is beneath.
+    c.same("the card's root navigated", navigate(&mut words, 6), Ok(11));
+    c.same("9 is hidden by the card's old root", visible(&words, 9), hid(6, 1));
+    c.same("opening there", open(&mut words, 9), hidden_by(6));
+    c.same("its frame cannot be taken out", drop_frame(&mut words, 5), hidden_by(6));
+    c.same("three steps", (position(&words, 4), steps_of(&words, 4)), (Ok((3, 3, 4)), Ok((vec![11, 9, 8], vec![]))));
+    c.same("back by two", go_in(&mut words, 4, -2), Ok(vec![4, 11, 6, 1, 5, 9, 8, 1]));
+    c.same("window 0 has none", position(&words, 0), Ok((0, 0, 1)));
+}
+
+/// L10: "13 when no root frame has that number, after 2": before 6 and 9, and for a frame that is not a root frame.
+fn root_examples(c: &mut Checks) {
+    let mut x = record_x();
+    tab(&mut x).unwrap();
+    let unsound = [&[7, 6], &x[2..]].concat();
+    for root in [1, 2, 3, 5, 6, 7, NONE] {
+        let mut words = x.clone();
+        c.same("13 by nothing, by a step, and too far", [0, 1, 9].map(|delta| go_in(&mut words, root, delta)), [no(13), no(13), no(13)]);
+        c.same("13 before 6, at the ends", [i32::MIN, i32::MAX].map(|delta| go_in(&mut words, root, delta)), [no(13), no(13)]);
+        c.same("13 with no room", traverse(&mut words, root, 1, &mut []), no(13));
+        c.same("13 keeps the words", words, x.clone());
+        c.same("13 of position", position(&x, root), no(13));
+        c.same("13 of lists", steps_of(&x, root), no(13));
+        c.same("13 of lists before 9", lists(&x, root, &mut [], &mut []), no(13));
+        c.same("13 of the outline", outline_of(&x, root), no(13));
+        c.same("13 of the outline before 9", outline(&x, root, &mut []), no(13));
+    }
+    for root in [0, 4, 9] {
+        c.same("2 before 13", (position(&unsound, root), outline_of(&unsound, root)), (no(2), no(2)));
+        c.same("2 before 13", (steps_of(&unsound, root), go_in(&mut unsound.clone(), root, 0)), (no(2), no(2)));
+        c.same("1 before 13", (position(&[9; 6], root), outline_of(&[9; 6], root)), (no(1), no(1)));
+        c.same("1 before 13", (steps_of(&[9; 6], root), go_in(&mut [9; 6], root, 0)), (no(1), no(1)));
+    }
+    c.same("6 of the second window", go_in(&mut x, 4, 1), no(6));
+    c.same("9 of the first", traverse(&mut x, 0, 1, &mut [0; 3]), no(9));
+    c.same("6 before 9 in the second", traverse(&mut x, 4, -1, &mut []), no(6));
+    c.same("9 of the second's outline", outline(&x, 4, &mut [0; 1]), no(9));
+    c.same("no list is needed there", lists(&x, 4, &mut [], &mut []), Ok((0, 0)));
+    c.same("9 of the first's lists", lists(&x, 0, &mut [0; 1], &mut []), no(9));
+
+    // The root frame of a window is not 0 where its number is another.
+    let renumbered = record(2, 10, 10, &[[7, 9, NONE, 1], [3, 5, 7, 1]]);
+    c.same("no root frame 0", position(&renumbered, 0), no(13));
+    c.same("root frame 9", outline_of(&renumbered, 9), Ok(vec![0, 7, 1, 3]));
+    c.same("neither its document nor what is beneath", (position(&renumbered, 7), position(&renumbered, 5)), (no(13), no(13)));
 }
 
 /// A NaN with a payload, as a host may leave it in an entry that is free or of kind 0.
@@ -645,6 +888,43 @@ fn old_saved_examples(c: &mut Checks) {
     }
 }
 
+/// L10: "The saved layout is unchanged; new-form loading follows the wider S5, old-form loading the narrow one."
+fn windows_saved_examples(c: &mut Checks) {
+    // Two windows in turn, the first of them one step back.
+    let mut words = in_turn();
+    go(&mut words, -1).unwrap();
+    let contents = [2, 6, 2, 0, NONE, 3, 1, 1, NONE, 3, 2];
+    let bytes = to_bytes(&[contents.as_slice(), &[0, 0, 2, 2, 4, 4], &[1, 1, 3, 3, 5, 5]].concat());
+    c.same("two windows saved", saved(&words), bytes.clone());
+    let mut again = vec![9; words.len()];
+    c.same("loaded", load(&mut again, &bytes), Ok(6));
+    c.same("again", again.clone(), words.clone());
+    c.same("two windows in five rows", load(&mut [0; 23], &bytes), no(7));
+    c.same("in six words", load(&mut [0; 6], &bytes), no(1));
+    c.same("not the old form", load_old(&mut again, &bytes), no(3));
+
+    let old = to_bytes(&[contents.as_slice(), &[0, 2, 4], &[1, 3, 5]].concat());
+    c.same("their rows in the old form", old.clone(), old_bytes_of(&words));
+    c.same("which had one root frame", load_old(&mut again, &old), no(3));
+    c.same("nor is it the new form", load(&mut again, &old), no(3));
+    c.same("3 keeps the words", again, words);
+
+    // A card beside a fresh window, which is in order as one; and the same with the card's frame beneath document 0.
+    let fresh_card = |parent: u32| to_bytes(&[2, 2, 2, 0, NONE, 1, 0, 1, parent, 1, 0, 0, 1]);
+    let mut two = [0; 11];
+    c.same("two root frames in the old form", load_old(&mut two, &fresh_card(NONE)), no(3));
+    c.same("one root frame in it", load_old(&mut two, &fresh_card(0)), Ok(2));
+    let fresh_card = |parent: u32| to_bytes(&[2, 2, 2, 0, NONE, 1, 0, 1, parent, 1, 0, 0, 0, 1, 1]);
+    c.same("two root frames", load(&mut two, &fresh_card(NONE)), Ok(2));
+    c.same("their words", two.to_vec(), record(2, 2, 2, &[[0, 0, NONE, 1], [1, 1, NONE, 1]]));
+    c.same("one root frame", load(&mut two, &fresh_card(0)), Ok(2));
+
+    // P9, whose third frame is a window in the first of these and not in the second.
+    let p9 = |parent: u32| to_bytes(&[3, 5, 3, 0, NONE, 1, 0, 1, 0, 2, 0, 2, parent, 2, 1, 0, 0, 1, 1, 3, 3, 2, 2, 4, 4]);
+    c.same("in order by windows", load(&mut [0; 35], &p9(NONE)), Ok(5));
+    c.same("not in order in one", load(&mut [0; 35], &p9(0)), no(3));
+}
+
 /// One record for each clause, in which that clause alone fails.
 fn sound_clauses(c: &mut Checks) {
     let changed = |places: &[(usize, u32)]| {
@@ -663,9 +943,15 @@ fn sound_clauses(c: &mut Checks) {
     c.same("S3", changed(&[(2, 3)]), vec![3]);
     c.same("S4", changed(&[(3 + 4 * 3 + 2, 3)]), vec![4]);
     c.same("S5 one parent", changed(&[(3 + 4 * 5 + 2, 3)]), vec![5]);
-    c.same("S5 one root frame", changed(&[(3 + 4 * 3 + 2, NONE)]), vec![5]);
+    c.same("S5 one parent, none of them", changed(&[(3 + 4 * 5 + 2, NONE)]), vec![5]);
+    c.same("S5 several root frames", changed(&[(3 + 4 * 3 + 2, NONE)]), vec![]);
     c.same("S6 flag", changed(&[(6, 2)]), vec![6]);
     c.same("S6 two shown", changed(&[(3 + 4 * 2 + 3, 1)]), vec![6]);
+    // 2 shown instead of 4, and 5 instead of 1: 4 is upcoming, and the later step 5 is shown.
+    let crossed = [(3 + 4 * 2 + 3, 1), (3 + 4 * 4 + 3, 0), (3 + 4 + 3, 0), (3 + 4 * 5 + 3, 1)];
+    c.same("S7", changed(&crossed), vec![7]);
+    c.same("S7 with 3 in a window of its own", changed(&[crossed.as_slice(), &[(3 + 4 * 3 + 2, NONE)]].concat()), vec![7]);
+    c.same("S7 with 2 and 4 in one", changed(&[crossed.as_slice(), &[(3 + 4 * 2 + 2, NONE), (3 + 4 * 4 + 2, NONE)]].concat()), vec![]);
     c.same("S8", changed(&[(3 + 4 * 8 - 1, 1)]), vec![8]);
 }
 
@@ -697,9 +983,37 @@ fn script_examples(c: &mut Checks) {
     let input = "replace 0\ngo -1\nopen 1\nopen 2\nnav 3\nopen 1\nnav 5\ngo -1\nreplace 2\nreplace 3\ngo 1\nreplace 5\nreplace 6\ngo -1\n";
     let wanted = "ok 1 0/0\nno 6 0/0\nok 2 0/0\nok 3 0/0\nok 4 1/1\nok 5 1/1\nok 6 2/2\nok 1 1/2\nok 7 0/1\nno 4 0/1\nok 1 1/1\nno 5 at 5 1/1\nok 8 1/1\nok 1 0/1\n";
     c.same("a script with replacements", text(input), wanted.to_string());
+    windows_script_examples(c, text);
     c.same("the largest document", script::parse(b"replace 4294967295"), Some(script::Line::Replace(NONE)));
     c.same("the largest number", script::parse(b"open 4294967295"), Some(script::Line::Open(NONE)));
     c.same("the largest frame number", script::parse(b"drop 4294967295"), Some(script::Line::Drop(NONE)));
-    c.same("the least number", script::parse(b"go -2147483648"), Some(script::Line::Go(i32::MIN)));
-    c.same("the greatest number", script::parse(b"go 2147483647"), Some(script::Line::Go(i32::MAX)));
+    c.same("the least number", script::parse(b"go -2147483648"), Some(script::Line::Go(i32::MIN, 0)));
+    c.same("the greatest number", script::parse(b"go 2147483647"), Some(script::Line::Go(i32::MAX, 0)));
+}
+
+/// L10: "`tab` (its value: document and root frame, one space between), and `go N R` for root frame R, R being 0 when left out; its position
+/// field is that of window 0".
+fn windows_script_examples(c: &mut Checks, text: impl Fn(&str) -> String) {
+    for bad in ["tab ", " tab", "tab 0", "tab 1", "Tab", "ta", "tabs", "tab\r", "tab\t"] {
+        c.same(bad, script::parse(bad.as_bytes()), None);
+    }
+    for bad in ["go 1 ", "go 1  0", "go  1 0", "go 1 0 ", "go 1 0 0", "go 1 +1", "go 1 -1", "go 1 -0", "go 1 00", "go 1 01", "go 1 4294967296", "go 1 x", "go 1 0\r", "go 1\t0"] {
+        c.same(bad, script::parse(bad.as_bytes()), None);
+    }
+    for bad in ["go -0 1", "go +1 1", "go 01 1", "go 2147483648 0", "go -2147483649 0", "go - 1 0", "go  0", "go 1,0", "nav 0 0", "open 0 0", "drop 1 0", "replace 0 0"] {
+        c.same(bad, script::parse(bad.as_bytes()), None);
+    }
+    for (line, delta, root) in [("go 1 0", 1, 0), ("go 1", 1, 0), ("go -3 12", -3, 12), ("go 0 4294967295", 0, NONE), ("go -2147483648 4294967294", i32::MIN, NONE - 1)] {
+        c.same(line, script::parse(line.as_bytes()), Some(script::Line::Go(delta, root)));
+    }
+    c.same("tab", script::parse(b"tab"), Some(script::Line::Tab));
+    let input = "tab\nnav 0\nnav 1\ngo -1\ngo -1 1\ngo 1 1\ngo 1 2\ngo 0 1\ngo -2 1\ngo 1 0\n";
+    let wanted = "ok 1 1 0/0\nok 2 1/1\nok 3 1/1\nok 1 0/1\nok 1 0/1\nok 1 0/1\nno 13 0/1\nok 0 0/1\nno 6 0/1\nok 1 1/1\n";
+    c.same("a script with two windows", text(input), wanted.to_string());
+    let input = format!("{input}open 3\ngo 0 2\ndrop 1\ndrop 2\ntab\ngo 0 4294967295\ngo 9 9\nnav 9\ntab \n");
+    let wanted = format!("{wanted}ok 4 1/1\nno 13 1/1\nno 10 1/1\nok 1 1/1\nok 5 3 1/1\nno 13 1/1\nno 13 1/1\nno 4 1/1\nbad\n");
+    c.same("it goes on with a third", text(&input), wanted);
+    let input = "nav 0\ntab\ngo -1\nnav 2\ngo 1\ngo -1\nnav 0\ngo -1 1\nnav 3\nreplace 2\ngo 1 1\n";
+    let wanted = "ok 1 1/1\nok 2 1 1/1\nok 1 0/1\nok 3 0/1\nok 1 1/1\nok 1 0/1\nok 4 1/1\nok 1 1/1\nno 5 at 3 1/1\nok 5 1/1\nok 1 1/1\n";
+    c.same("a script that navigates beside an upcoming step", text(input), wanted.to_string());
 }

@@ -18,7 +18,7 @@ pub struct History {
 }
 
 impl History {
-    /// The history that the rows of a sound record stand for.
+    /// The history that the rows of a window stand for; or those of several windows, each a history beside the others.
     pub fn of(rows: &[Row]) -> History {
         let document = |row: &Row| Document {
             number: row.document,
@@ -47,7 +47,7 @@ impl History {
         d < e && self.same_session(d, e)
     }
 
-    /// "FA = {d | d0 ↠* d} (the fully active documents)": from the active root along active children.
+    /// "FA = {d | d0 ↠* d} (the fully active documents)": from the active root, of each window, along active children.
     pub fn fully_active(&self) -> HashSet<u32> {
         let mut reached = HashSet::new();
         loop {
@@ -119,7 +119,7 @@ impl History {
         self.traverse_to(target.expect("only a document that can go back is traversed from"));
     }
 
-    /// Definition 5: "for any a ≲ b and c ≲ d, if a ∈ A and d ∈ A then d ≤ b".
+    /// Definition 5, of a window: "for any a ≲ b and c ≲ d, if a ∈ A and d ∈ A then d ≤ b".
     pub fn well_formed(&self) -> bool {
         let last_step_shown = self.back_target();
         self.joint_future().iter().all(|&b| last_step_shown.is_none_or(|d| d <= b))

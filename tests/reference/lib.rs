@@ -10,3 +10,4 @@ pub mod record;
 pub mod saved;
 pub mod script;
 pub mod sound;
+pub mod windows;

@@ -1,7 +1,7 @@
 //! The saved forms: bytes, big-endian, four a number. The new one is document 02's L7, the old one document 01's.
 use crate::history::History;
 use crate::record::{rows, write, Row, MOST_ROWS};
-use crate::sound::{is_sound, rises};
+use crate::sound::{is_sound, one_root_frame, rises};
 
 /// What Save writes for a sound record: "each body entry becomes document number and row place, by rising row place".
 pub fn bytes_of(words: &[u32]) -> Vec<u8> {
@@ -11,7 +11,7 @@ pub fn bytes_of(words: &[u32]) -> Vec<u8> {
     with_bodies(words, body)
 }
 
-/// What Save wrote before for a sound record whose numbers rise: "the m document numbers, rising".
+/// What Save wrote before for a sound record of one window whose numbers rise: "the m document numbers, rising".
 pub fn old_bytes_of(words: &[u32]) -> Vec<u8> {
     let rows = rows(words);
     let body = |frame: u32| {
@@ -38,7 +38,7 @@ fn with_bodies(words: &[u32], body: impl Fn(u32) -> Vec<u32>) -> Vec<u8> {
 }
 
 /// The record, of capacity 512, that the bytes stand for: only when "the row places of all bodies [are] 0 to n - 1 once each", it is
-/// sound, and Save would write these very bytes for it.
+/// sound, of however many windows, and Save would write these very bytes for it.
 pub fn record_of(bytes: &[u8]) -> Option<Vec<u32>> {
     let mut told = told(bytes, 2)?;
     told.entries.sort_by_key(|(_, body)| body[1]);
@@ -49,12 +49,13 @@ pub fn record_of(bytes: &[u8]) -> Option<Vec<u32>> {
     (is_sound(&record) && bytes_of(&record) == bytes).then_some(record)
 }
 
-/// The same of the old form, which tells the order of the rows by their numbers alone: "accepts exactly what it accepted".
+/// The same of the old form, which tells the order of the rows by their numbers alone: "accepts exactly what it accepted", and so "old-form
+/// loading [follows] the narrow one" of S5.
 pub fn old_record_of(bytes: &[u8]) -> Option<Vec<u32>> {
     let mut told = told(bytes, 1)?;
     told.entries.sort_by_key(|(row, _)| row.document);
     let record = told.record()?;
-    (is_sound(&record) && rises(&record) && old_bytes_of(&record) == bytes).then_some(record)
+    (is_sound(&record) && rises(&record) && one_root_frame(&record) && old_bytes_of(&record) == bytes).then_some(record)
 }
 
 /// What bytes tell: both next numbers, and of each document its row and its body entry.

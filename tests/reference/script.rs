@@ -1,26 +1,28 @@
 //! The script program: lines in, one answer line each.
-use crate::calls::{drop_frame, fresh, navigate, open, position, replace, traverse, Refusal};
+use crate::calls::{drop_frame, fresh, navigate, open, position, replace, tab, traverse, Refusal};
 use crate::record::MOST_ROWS;
 
 #[derive(Clone, Copy, Debug, PartialEq, Eq)]
 pub enum Line {
     Open(u32),
     Nav(u32),
-    Go(i32),
+    /// δ, and the root frame of the window.
+    Go(i32, u32),
     Drop(u32),
     Replace(u32),
+    Tab,
 }
 
-/// The window of a script: a fresh record with C = 512.
-pub struct Window {
+/// The table of a script, with all its windows: a fresh record with C = 512.
+pub struct Table {
     pub words: Vec<u32>,
 }
 
-impl Window {
-    pub fn new() -> Window {
+impl Table {
+    pub fn new() -> Table {
         let mut words = vec![0; 3 + 4 * MOST_ROWS];
         fresh(&mut words).expect("there is room for one row");
-        Window { words }
+        Table { words }
     }
 
     /// The answer to one line, without its newline.
@@ -28,15 +30,18 @@ impl Window {
         let Some(line) = parse(line) else { return "bad".to_string() };
         let mut changes = vec![0; 4 * MOST_ROWS];
         let outcome = match line {
-            Line::Open(parent) => open(&mut self.words, parent).map(|(document, _frame)| document),
-            Line::Nav(from) => navigate(&mut self.words, from),
-            Line::Go(delta) => traverse(&mut self.words, delta, &mut changes),
-            Line::Drop(frame) => drop_frame(&mut self.words, frame),
-            Line::Replace(document) => replace(&mut self.words, document),
+            Line::Open(parent) => open(&mut self.words, parent).map(|(document, _frame)| document.to_string()),
+            Line::Nav(from) => navigate(&mut self.words, from).map(|document| document.to_string()),
+            Line::Go(delta, root) => traverse(&mut self.words, root, delta, &mut changes).map(|count| count.to_string()),
+            Line::Drop(frame) => drop_frame(&mut self.words, frame).map(|removed| removed.to_string()),
+            Line::Replace(document) => replace(&mut self.words, document).map(|new| new.to_string()),
+            // "its value: document and root frame, one space between"
+            Line::Tab => tab(&mut self.words).map(|(document, frame)| format!("{document} {frame}")),
         };
-        let (position, steps, _) = position(&self.words).expect("the record stays sound");
+        // "its position field is that of window 0", which no line takes out
+        let (position, steps, _) = position(&self.words, 0).expect("the record stays sound, and has the root frame that it began with");
         match outcome {
-            Ok(number) => format!("ok {number} {position}/{steps}"),
+            Ok(value) => format!("ok {value} {position}/{steps}"),
             // "the script prints `no 5 at D` before the position"
             Err(Refusal { number, hiding: Some(document) }) => format!("no {number} at {document} {position}/{steps}"),
             Err(Refusal { number, hiding: None }) => format!("no {number} {position}/{steps}"),
@@ -46,10 +51,10 @@ impl Window {
 
 /// Everything that the program prints for an input.
 pub fn output(input: &[u8]) -> Vec<u8> {
-    let mut window = Window::new();
+    let mut table = Table::new();
     let mut out = Vec::new();
     for line in lines(input) {
-        out.extend(window.answer(line).bytes());
+        out.extend(table.answer(line).bytes());
         out.push(b'\n');
     }
     out
@@ -82,13 +87,21 @@ pub fn parse(line: &[u8]) -> Option<Line> {
     if let Some(digits) = line.strip_prefix(b"replace ") {
         return Some(Line::Replace(u32::try_from(decimal(digits)?).ok()?));
     }
-    let number = line.strip_prefix(b"go ")?;
+    if line == b"tab" {
+        return Some(Line::Tab);
+    }
+    // "`go N R` for root frame R, R being 0 when left out"
+    let numbers = line.strip_prefix(b"go ")?;
+    let (number, root) = match numbers.iter().position(|&byte| byte == b' ') {
+        Some(space) => (&numbers[..space], u32::try_from(decimal(&numbers[space + 1..])?).ok()?),
+        None => (numbers, 0),
+    };
     let value = match number.strip_prefix(b"-") {
         Some(b"0") => return None,
         Some(digits) => -(decimal(digits)? as i128),
         None => decimal(number)? as i128,
     };
-    Some(Line::Go(i32::try_from(value).ok()?))
+    Some(Line::Go(i32::try_from(value).ok()?, root))
 }
 
 /// "Decimal without leading zeros or plus." At most 64 digits come here, of which more than 20 are too many for any number.

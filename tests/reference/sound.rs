@@ -1,9 +1,10 @@
-//! S1 to S8, each as document 01 words it, S2 as document 02's L7 does.
+//! S1 to S8, each as document 01 words it, S2 as document 02's L7 does, S5 and S7 as its L10 does.
 use crate::record::{capacity, rows, used_words, Row, NONE};
+use crate::windows::root_frames;
 use std::collections::{BTreeMap, HashMap, HashSet};
 
 /// The clauses that do not hold, by number. When S1 fails the rows cannot be told, so it stands alone.
-/// S7 speaks of each frame's shown document, so it is judged only where S6 holds.
+/// S7 speaks of each frame's shown document and of its window, so it is judged only where S4 and S6 hold.
 pub fn broken(words: &[u32]) -> Vec<u8> {
     let room = capacity(words.len());
     let count = words[0] as usize;
@@ -33,13 +34,12 @@ pub fn broken(words: &[u32]) -> Vec<u8> {
     if !parents_stand {
         out.push(4);
     }
-    // "S5. Rows of one frame have one parent. All rows without a parent are one frame (the root frame)."
+    // "S5. Rows of one frame have one parent." The sentence that followed is gone: "S5 now allows several root frames".
     let mut parents_of_frame: HashMap<u32, HashSet<u32>> = HashMap::new();
     for row in &rows {
         parents_of_frame.entry(row.frame).or_default().insert(row.parent);
     }
-    let root_frames: HashSet<u32> = rows.iter().filter(|row| row.parent == NONE).map(|row| row.frame).collect();
-    if !(parents_of_frame.values().all(|parents| parents.len() == 1) && root_frames.len() <= 1) {
+    if !parents_of_frame.values().all(|parents| parents.len() == 1) {
         out.push(5);
     }
     // "S6. Shown is 0 or 1, and each frame has exactly one shown row."
@@ -53,7 +53,7 @@ pub fn broken(words: &[u32]) -> Vec<u8> {
     let flags = rows.iter().all(|row| row.shown <= 1);
     if !(flags && shown_of_frame.values().all(|places| places.len() == 1)) {
         out.push(6);
-    } else if !upcoming_is_last(&rows, &shown_of_frame) {
+    } else if parents_stand && !upcoming_is_last(&rows, &shown_of_frame) {
         out.push(7);
     }
     // "S8. The words of rows n to C - 1 are zero."
@@ -63,8 +63,9 @@ pub fn broken(words: &[u32]) -> Vec<u8> {
     out
 }
 
-/// "S7. Every upcoming step is later than every shown document that is a step (001, definition 5)."
+/// "S7. Every upcoming step is later than every shown document that is a step (001, definition 5)", which holds "per window".
 fn upcoming_is_last(rows: &[Row], shown_of_frame: &BTreeMap<u32, Vec<usize>>) -> bool {
+    let root_frames = root_frames(rows);
     let mut seen = HashSet::new();
     let mut upcoming = Vec::new();
     let mut shown_steps = Vec::new();
@@ -78,7 +79,8 @@ fn upcoming_is_last(rows: &[Row], shown_of_frame: &BTreeMap<u32, Vec<usize>>) ->
             shown_steps.push(place);
         }
     }
-    upcoming.iter().all(|later| shown_steps.iter().all(|earlier| later > earlier))
+    let apart = |one: usize, other: usize| root_frames[one] != root_frames[other];
+    upcoming.iter().all(|&later| shown_steps.iter().all(|&earlier| apart(later, earlier) || later > earlier))
 }
 
 pub fn is_sound(words: &[u32]) -> bool {
@@ -88,4 +90,10 @@ pub fn is_sound(words: &[u32]) -> bool {
 /// S2 as it was, by which the old saved form goes: "Document numbers rise strictly by row". That the last is below word 1 is in S2 as it is.
 pub fn rises(words: &[u32]) -> bool {
     rows(words).windows(2).all(|pair| pair[0].document < pair[1].document)
+}
+
+/// The sentence of S5 that is gone, by which the old saved form goes: "All rows without a parent are one frame (the root frame)."
+pub fn one_root_frame(words: &[u32]) -> bool {
+    let root_frames: HashSet<u32> = rows(words).iter().filter(|row| row.parent == NONE).map(|row| row.frame).collect();
+    root_frames.len() <= 1
 }

@@ -2,10 +2,9 @@
 use crate::compare::{print_difference, replies};
 use crate::request::{Call, Reply, Request};
 use crate::saves::Form;
-use reference::calls::{fresh, navigate, open, replace, traverse};
+use reference::calls::{fresh, navigate, open, replace, tab, traverse};
 use reference::examples::record_x;
 use reference::saved::old_bytes_of;
-use reference::sound::rises;
 
 /// What came of the changes of a record's saved form.
 #[derive(Default)]
@@ -27,13 +26,16 @@ impl Tally {
 
 const PRINTED: u64 = 2;
 
-/// A fresh record, X of document 01, one with three frames and an upcoming step, and the last two with a document replaced.
+/// A fresh record, X of document 01, one with three frames and an upcoming step, the last two with a document replaced, and one of two windows, each
+/// with a step, that is in order by windows alone.
 fn records() -> Vec<(&'static str, Vec<u32>)> {
     let mut first = vec![0; 3 + 4 * 8];
     fresh(&mut first).unwrap();
     let mut three = first.clone();
     open(&mut three, 0).and(open(&mut three, 0)).and(navigate(&mut three, 1)).and(navigate(&mut three, 2)).unwrap();
-    traverse(&mut three, -1, &mut [0; 32]).unwrap();
+    traverse(&mut three, 0, -1, &mut [0; 32]).unwrap();
+    let mut two = first.clone();
+    tab(&mut two).and(navigate(&mut two, 0)).and(navigate(&mut two, 1)).and(traverse(&mut two, 0, -1, &mut [0; 32])).unwrap();
     let with = |document: u32, words: &[u32]| {
         let mut words = words.to_vec();
         replace(&mut words, document).unwrap();
@@ -41,7 +43,14 @@ fn records() -> Vec<(&'static str, Vec<u32>)> {
     };
     let (x, replaced) = (record_x(), with(2, &three));
     let x_replaced = with(3, &x);
-    vec![("fresh", first), ("X", x), ("three frames", three), ("three frames, one replaced", replaced), ("X, one replaced", x_replaced)]
+    vec![
+        ("fresh", first),
+        ("X", x),
+        ("three frames", three),
+        ("three frames, one replaced", replaced),
+        ("X, one replaced", x_replaced),
+        ("two windows", two),
+    ]
 }
 
 /// The bytes with each byte changed to each other value.
@@ -57,7 +66,7 @@ fn changed(bytes: &[u8]) -> impl Iterator<Item = Vec<u8>> + '_ {
 /// A call with these runs, between guard words.
 fn request(call: Call, words: Vec<u32>, bytes: Vec<u8>) -> Request {
     let (first, second, places) = (vec![], vec![], vec![]);
-    Request { call, number: 0, lie: 0, guard: 0x5a5a_1234, outs: [7; 3], given: [0; 2], doubles: [0; 2], words, first, second, places, bytes }
+    Request { call, number: 0, root: 0, lie: 0, guard: 0x5a5a_1234, outs: [7; 3], given: [0; 2], doubles: [0; 2], words, first, second, places, bytes }
 }
 
 /// Gives bytes to a loading call, each in turn, and saves what it takes once more: both as the reference does, and the same bytes come back.
@@ -102,7 +111,7 @@ fn changes_of(name: &str, words: &[u32], form: Form, driver: &[String]) -> Optio
 pub fn run(driver: &[String]) -> bool {
     let mut passed = true;
     for (name, words) in records() {
-        for form in [Form::New, Form::Old].into_iter().filter(|&form| form == Form::New || rises(&words)) {
+        for form in [Form::New, Form::Old].into_iter().filter(|form| form.holds(&words)) {
             let answered = changes_of(name, &words, form, driver);
             if answered.is_none() {
                 println!("runner: the driver ended early on the {form:?} form of {name}");

@@ -13,6 +13,7 @@ mod saves;
 mod scripts;
 mod stores;
 mod table;
+mod windows;
 
 const USAGE: &str = "usage: runner calls [--seed S] [--calls N] DRIVER [ARGUMENT..]
        runner changes DRIVER [ARGUMENT..]

@@ -24,9 +24,10 @@ struct Source {
 impl Maker {
     pub fn new(seed: u64) -> Maker {
         let mut random = Random::new(seed);
-        let small = (0..40).map(|i| records::grown(&mut random, 1 + i % 12, 10)).collect();
-        let middle = (0..12).map(|i| records::grown(&mut random, 14 + 5 * i, 60)).collect();
-        let large = [200, 300, 511, 512, 512, 512].iter().map(|&room| records::nearly_full(&mut random, room)).collect();
+        let small = (0..40).map(|i| records::grown(&mut random, 1 + i % 12, 10, most_windows(0, i))).collect();
+        let middle = (0..12).map(|i| records::grown(&mut random, 14 + 5 * i, 60, most_windows(1, i))).collect();
+        let rooms = [200, 300, 511, 512, 512, 512].into_iter().enumerate();
+        let large = rooms.map(|(i, room)| records::nearly_full(&mut random, room, most_windows(2, i))).collect();
         let plain = plain_calls(&mut random);
         Maker { random, small, middle, large, plain }
     }
@@ -52,17 +53,18 @@ impl Maker {
     }
 
     /// An accepted move changes the record that the pool holds. Fresh, loading, Drop and large removals do so rarely or never,
-    /// lest all records stay small; Replace does so of every other record, so that there are some whose numbers rise.
+    /// lest all records stay small; Replace does so of every other record, so that there are some whose numbers rise; and none leads to
+    /// more windows than the record may have.
     fn keep(&mut self, call: Call, pool: usize, entry: usize, words: &[u32]) {
         let kept = match call {
-            Call::Open | Call::Traverse => true,
+            Call::Open | Call::Traverse | Call::Tab => true,
             Call::Navigate => pool == 0 || self.random.chance(3) || words[0] + 8 >= self.pool(pool)[entry][0],
             Call::Replace => entry % 2 == 1 && (self.random.chance(3) || words[0] + 8 >= self.pool(pool)[entry][0]),
             Call::Drop => self.random.chance(10),
             Call::Fresh | Call::Load | Call::LoadOld => pool == 0 && self.random.chance(10),
             _ => false,
         };
-        if kept {
+        if kept && records::window_count(words) <= most_windows(pool, entry) {
             assert!(is_sound(words), "a sound record stays sound");
             self.pool(pool)[entry] = words.to_vec();
         }
@@ -108,19 +110,25 @@ impl Maker {
         let random = &mut self.random;
         let mut request = blank(random, call, words);
         match call {
-            Call::Fresh | Call::Position => {}
+            Call::Fresh | Call::Tab => {}
+            Call::Position => request.root = root(random, &request.words),
             Call::Open | Call::Navigate | Call::Visible => request.number = number(random, &request.words, 0, records::visible_document),
             Call::Drop => request.number = number(random, &request.words, 1, records::frame_to_drop),
             Call::Replace => request.number = number(random, &request.words, 0, records::document_to_replace),
             Call::Traverse => {
-                request.number = delta(random, &request.words) as u32;
+                request.root = root(random, &request.words);
+                request.number = delta(random, &request.words, request.root) as u32;
                 request.first = lent(random, needed(&request, |reply| 4 * reply.outs[0]));
             }
             Call::Lists => {
+                request.root = root(random, &request.words);
                 request.first = lent(random, needed(&request, |reply| reply.outs[0]));
                 request.second = lent(random, needed(&request, |reply| reply.outs[1]));
             }
-            Call::Outline => request.first = lent(random, needed(&request, |reply| 2 * reply.outs[0])),
+            Call::Outline => {
+                request.root = root(random, &request.words);
+                request.first = lent(random, needed(&request, |reply| 2 * reply.outs[0]));
+            }
             Call::Save => {
                 let length = near(random, needed(&request, |reply| reply.outs[0]));
                 request.bytes = random.bytes(length);
@@ -174,13 +182,22 @@ impl Maker {
     }
 }
 
+/// How many windows a record of a pool may have: one, a few, or of a large one as many as rows.
+fn most_windows(pool: usize, entry: usize) -> usize {
+    match pool {
+        0 => 1 + entry / 12,
+        1 => 1 + entry % 4,
+        _ => [1, 2, 3, 512, 1, 2][entry],
+    }
+}
+
 /// A call with no buffers yet.
 fn blank(random: &mut Random, call: Call, words: Vec<u32>) -> Request {
     let guard = random.word();
     let outs = [random.word(), random.word(), random.word()];
     let doubles = [doubles::any(random), doubles::any(random)];
     let lie = random.below(3) as u32;
-    Request { call, number: 0, lie, guard, outs, given: [0; 2], doubles, words, first: vec![], second: vec![], places: vec![], bytes: vec![] }
+    Request { call, number: 0, root: 0, lie, guard, outs, given: [0; 2], doubles, words, first: vec![], second: vec![], places: vec![], bytes: vec![] }
 }
 
 /// How much room the answer of this call wants; 2 where the call is refused whatever the room.
@@ -223,10 +240,19 @@ fn number(random: &mut Random, words: &[u32], column: usize, accepted: fn(&mut R
     }
 }
 
-fn delta(random: &mut Random, words: &[u32]) -> i32 {
+/// The root frame of a window: most often one of a sound record; else also a frame beneath, or most likely none.
+fn root(random: &mut Random, words: &[u32]) -> u32 {
+    if random.chance(60) && words.len() >= 7 && is_sound(words) {
+        return records::root_frame(random, words);
+    }
+    number(random, words, 1, records::root_frame)
+}
+
+/// A δ that the window of this root frame most likely accepts, or one just beyond, or at an end of its range.
+fn delta(random: &mut Random, words: &[u32], root: u32) -> i32 {
     match random.below(20) {
-        0..=13 => records::delta_within(random, words, 0),
-        14 | 15 => records::delta_within(random, words, 1),
+        0..=13 => records::delta_within(random, words, root, 0),
+        14 | 15 => records::delta_within(random, words, root, 1),
         16 => random.pick(&[i32::MIN, i32::MIN + 1, i32::MAX, i32::MAX - 1]),
         17 => random.word() as i32,
         _ => random.between(-3, 3) as i32,
@@ -260,6 +286,7 @@ fn plain_calls(random: &mut Random) -> Vec<Request> {
             let _ = reference::calls::fresh(&mut fresh);
             for words in [vec![0; length], fresh, records::noise(random, length)] {
                 let mut request = blank(random, call, words);
+                request.root = random.pick(&[0, 0, 1, NONE]);
                 request.first = random.words(8);
                 request.second = random.words(8);
                 request.places = stores::store(random, &request.words, 0);

@@ -1,8 +1,9 @@
-//! Records for the calls: grown by moves, replacements among them, renumbered, damaged, cut, and noise.
+//! Records for the calls: grown by moves, replacements and new windows among them, renumbered, damaged, cut, and noise.
 use crate::random::Random;
 use reference::calls;
 use reference::history::History;
 use reference::record::{capacity, rows, used_words, write, Row, NONE};
+use reference::windows::windows;
 use std::collections::{BTreeMap, HashSet};
 
 /// A fresh record with room for so many rows and some words past them.
@@ -13,10 +14,12 @@ pub fn fresh(random: &mut Random, room: usize) -> Vec<u32> {
     words
 }
 
-/// How a record grows: how many of its moves traverse and how far, how many of the others replace, how many of the rest open a frame, and
-/// which visible documents it moves from.
+/// How a record grows: how many windows it may have and how many of its moves open one, how many of the others traverse and how far, how many of
+/// the rest replace, how many of what is left open a frame, and which visible documents it moves from.
 #[derive(Clone, Copy)]
 pub struct Shape {
+    windows: usize,
+    tab_percent: usize,
     traverse_percent: usize,
     reach: i32,
     replace_percent: usize,
@@ -32,8 +35,10 @@ enum From {
 }
 
 impl Shape {
-    pub fn any(random: &mut Random) -> Shape {
+    pub fn any(random: &mut Random, windows: usize) -> Shape {
         Shape {
+            windows,
+            tab_percent: random.pick(&[5, 15, 60]),
             traverse_percent: 15,
             reach: random.pick(&[1, 2, 2, 700]),
             replace_percent: random.pick(&[0, 0, 5, 25]),
@@ -51,9 +56,12 @@ pub fn move_on(random: &mut Random, words: &mut [u32], shape: Shape) {
         From::Root if random.chance(80) => visible[0],
         _ => random.pick(&visible),
     };
-    let _ = if random.chance(shape.traverse_percent) {
-        let delta = delta_within(random, words, 0).clamp(-shape.reach, shape.reach);
-        calls::traverse(words, delta, &mut vec![0; 4 * 512])
+    let _ = if window_count(words) < shape.windows && random.chance(shape.tab_percent) {
+        calls::tab(words).map(|(document, _frame)| document)
+    } else if random.chance(shape.traverse_percent) {
+        let root = root_frame(random, words);
+        let delta = delta_within(random, words, root, 0).clamp(-shape.reach, shape.reach);
+        calls::traverse(words, root, delta, &mut vec![0; 4 * 512])
     } else if random.chance(shape.replace_percent) {
         let document = if random.chance(70) { leaf(random, words) } else { from };
         calls::replace(words, document)
@@ -64,19 +72,20 @@ pub fn move_on(random: &mut Random, words: &mut [u32], shape: Shape) {
     };
 }
 
-pub fn grown(random: &mut Random, room: usize, moves: usize) -> Vec<u32> {
+/// A record after so many moves, of at most so many windows.
+pub fn grown(random: &mut Random, room: usize, moves: usize, windows: usize) -> Vec<u32> {
     let mut words = fresh(random, room);
-    let shape = Shape::any(random);
+    let shape = Shape::any(random, windows);
     for _ in 0..moves {
         move_on(random, &mut words, shape);
     }
     words
 }
 
-/// A record of which nearly all rows are in use.
-pub fn nearly_full(random: &mut Random, room: usize) -> Vec<u32> {
+/// A record of which nearly all rows are in use, of at most so many windows.
+pub fn nearly_full(random: &mut Random, room: usize, windows: usize) -> Vec<u32> {
     let mut words = fresh(random, room);
-    let mut shape = Shape { traverse_percent: 3, reach: 2, ..Shape::any(random) };
+    let mut shape = Shape { traverse_percent: 3, reach: 2, ..Shape::any(random, windows) };
     for turn in 0.. {
         if words[0] as usize >= room - room / 20 {
             break;
@@ -90,7 +99,7 @@ pub fn nearly_full(random: &mut Random, room: usize) -> Vec<u32> {
     words
 }
 
-/// In the order of their rows, the root frame's first.
+/// Those of all windows, in the order of their rows.
 fn visible_documents(words: &[u32]) -> Vec<u32> {
     let rows = rows(words);
     let visible = History::of(&rows).fully_active();
@@ -99,6 +108,17 @@ fn visible_documents(words: &[u32]) -> Vec<u32> {
 
 pub fn visible_document(random: &mut Random, words: &[u32]) -> u32 {
     random.pick(&visible_documents(words))
+}
+
+/// How many windows a sound record has.
+pub fn window_count(words: &[u32]) -> usize {
+    windows(&rows(words)).len()
+}
+
+/// A root frame of a sound record.
+pub fn root_frame(random: &mut Random, words: &[u32]) -> u32 {
+    let roots: Vec<u32> = windows(&rows(words)).into_keys().collect();
+    random.pick(&roots)
 }
 
 /// A visible document that holds no frame, so that its replacement removes nothing.
@@ -120,9 +140,9 @@ pub fn frame_to_drop(random: &mut Random, words: &[u32]) -> u32 {
     if held.is_empty() { rows(words)[0].frame } else { random.pick(&held) }
 }
 
-/// A δ from so much below the lowest to so much above the highest that the record accepts.
-pub fn delta_within(random: &mut Random, words: &[u32], beyond: i64) -> i32 {
-    let (position, steps, _) = calls::position(words).unwrap_or_default();
+/// A δ from so much below the lowest to so much above the highest that the window of this root frame accepts.
+pub fn delta_within(random: &mut Random, words: &[u32], root: u32, beyond: i64) -> i32 {
+    let (position, steps, _) = calls::position(words, root).unwrap_or_default();
     random.between(-(position as i64) - beyond, (steps - position) as i64 + beyond) as i32
 }
 

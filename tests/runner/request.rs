@@ -14,6 +14,7 @@ pub enum Call {
     Traverse,
     Drop,
     Replace,
+    Tab,
     Position,
     Visible,
     Lists,
@@ -29,8 +30,8 @@ pub enum Call {
 }
 
 /// In the order of the driver's numbers.
-pub const CALLS: [Call; 18] = [
-    Call::Fresh, Call::Open, Call::Navigate, Call::Traverse, Call::Drop, Call::Replace, Call::Position, Call::Visible, Call::Lists, Call::Stretch,
+pub const CALLS: [Call; 19] = [
+    Call::Fresh, Call::Open, Call::Navigate, Call::Traverse, Call::Drop, Call::Replace, Call::Tab, Call::Position, Call::Visible, Call::Lists, Call::Stretch,
     Call::Outline, Call::Save, Call::Load, Call::LoadOld, Call::PlaceItself, Call::PlaceAt, Call::Place, Call::PlaceAtZoom,
 ];
 
@@ -49,6 +50,11 @@ impl Call {
         matches!(self, Call::PlaceItself | Call::PlaceAt | Call::Place | Call::PlaceAtZoom)
     }
 
+    /// Whether it names a window by its root frame.
+    pub fn names_window(self) -> bool {
+        matches!(self, Call::Traverse | Call::Position | Call::Lists | Call::Outline)
+    }
+
     /// Whether it fills a record from bytes.
     pub fn loads(self) -> bool {
         matches!(self, Call::Load | Call::LoadOld)
@@ -60,12 +66,13 @@ impl Call {
     }
 }
 
-/// `first` and `second` are change rows, the two lists, or pairs; `places` is a store; `number` is a document, a frame or δ. Doubles go by their bits:
-/// `given` is a point, or a zoom and nothing, and `doubles` is what the out doubles held.
+/// `first` and `second` are change rows, the two lists, or pairs; `places` is a store; `number` is a document, a frame or δ, and `root` the root frame of
+/// a window. Doubles go by their bits: `given` is a point, or a zoom and nothing, and `doubles` is what the out doubles held.
 #[derive(Clone)]
 pub struct Request {
     pub call: Call,
     pub number: u32,
+    pub root: u32,
     pub lie: u32,
     pub guard: u32,
     pub outs: [u32; 3],
@@ -100,7 +107,7 @@ impl Request {
     pub fn encode(&self, to: &mut Vec<u8>) {
         let counts = [self.words.len(), self.first.len(), self.second.len(), self.places.len(), self.bytes.len()].map(|count| count as u32);
         let doubles = halves(&[self.given, self.doubles].concat());
-        let head = [[self.call as u32, self.number, self.lie, self.guard].as_slice(), &self.outs, &counts, &doubles].concat();
+        let head = [[self.call as u32, self.number, self.lie, self.guard].as_slice(), &self.outs, &counts, &doubles, &[self.root]].concat();
         for word in head.iter().chain(&self.words).chain(&self.first).chain(&self.second).chain(&halves(&self.places)) {
             to.extend(word.to_le_bytes());
         }
@@ -152,14 +159,15 @@ impl Request {
             Call::Fresh => calls::fresh(words).map(|()| vec![])?,
             Call::Open => calls::open(words, self.number).map(|(document, frame)| vec![document, frame])?,
             Call::Navigate => vec![calls::navigate(words, self.number)?],
-            Call::Traverse => vec![calls::traverse(words, self.number as i32, first)?],
+            Call::Traverse => vec![calls::traverse(words, self.root, self.number as i32, first)?],
             Call::Drop => vec![calls::drop_frame(words, self.number)?],
             Call::Replace => vec![calls::replace(words, self.number)?],
-            Call::Position => calls::position(words).map(|(position, steps, length)| vec![position, steps, length])?,
+            Call::Tab => calls::tab(words).map(|(document, frame)| vec![document, frame])?,
+            Call::Position => calls::position(words, self.root).map(|(position, steps, length)| vec![position, steps, length])?,
             Call::Visible => calls::visible(words, self.number).map(|sight| vec![sight.visible() as u32, sight.hiding.unwrap_or(NONE), sight.links])?,
-            Call::Lists => calls::lists(words, first, second).map(|(taken, upcoming)| vec![taken, upcoming])?,
+            Call::Lists => calls::lists(words, self.root, first, second).map(|(taken, upcoming)| vec![taken, upcoming])?,
             Call::Stretch => vec![calls::stretch(first, second, self.number as i32)?.len() as u32],
-            Call::Outline => vec![calls::outline(words, first)?],
+            Call::Outline => vec![calls::outline(words, self.root, first)?],
             Call::Save => vec![calls::save(words, bytes)?],
             Call::Load => vec![calls::load(words, bytes)?],
             Call::LoadOld => vec![calls::load_old(words, bytes)?],
@@ -172,7 +180,7 @@ impl Request {
 
     /// The call whole, for a reader who wants to repeat it by hand.
     pub fn print(&self) {
-        println!("  call {:?}, number {} (signed {}), runs lie {}, guard {:#010x}", self.call, self.number, self.number as i32, self.lie, self.guard);
+        println!("  call {:?}, number {} (signed {}), root {}, runs lie {}, guard {:#010x}", self.call, self.number, self.number as i32, self.root, self.lie, self.guard);
         println!("  out words before {:?}", self.outs);
         println!("  doubles given {:x?}, out doubles before {:x?}", self.given, self.doubles);
         print_runs(&self.words, &self.first, &self.second, &self.places, &self.bytes);

@@ -3,7 +3,7 @@ use crate::random::Random;
 use crate::request::{Call, Request};
 use reference::record::{write, Row, MOST_ROWS, NONE};
 use reference::saved::{bytes_of, old_bytes_of, old_record_of, record_of};
-use reference::sound::{is_sound, rises};
+use reference::sound::{is_sound, one_root_frame, rises};
 use std::collections::HashSet;
 
 /// A saved form: with row places, or as it was before.
@@ -28,7 +28,12 @@ impl Form {
         if self == Form::New { 2 } else { 1 }
     }
 
-    /// Bytes that stand for the sound record; in the old form its numbers rise.
+    /// Whether the form has bytes for the sound record: the old one for those of one window whose numbers rise.
+    pub fn holds(self, words: &[u32]) -> bool {
+        self == Form::New || rises(words) && one_root_frame(words)
+    }
+
+    /// What stands in a sound record, in the layout of the form; where the form does not hold it, that is no saved form, or another record's.
     pub fn saved(self, words: &[u32]) -> Vec<u8> {
         if self == Form::New { bytes_of(words) } else { old_bytes_of(words) }
     }
@@ -159,7 +164,7 @@ pub fn noise(random: &mut Random) -> Vec<u8> {
 /// Why bytes must have been refused, each alone: what both forms can lack, and what one of them can.
 const LACKS: [&str; 6] = ["the other form", "another length", "frames that do not rise", "none shown", "more than 512 rows", "an unsound record"];
 const NEW_LACKS: [&str; 3] = ["a place twice", "a place beyond", "places that fall"];
-const OLD_LACKS: [&str; 2] = ["a document twice", "documents that fall"];
+const OLD_LACKS: [&str; 3] = ["a document twice", "documents that fall", "several root frames"];
 
 /// The ways that must occur of a loading call: each of those, and a record whose numbers do not rise.
 pub fn ways_of(call: Call) -> Vec<&'static str> {
@@ -208,8 +213,17 @@ fn why_not(form: Form, bytes: &[u8]) -> Option<&'static str> {
     }
     let mut held = reasons.iter().filter(|(_, holds)| *holds).map(|(reason, _)| *reason);
     match (held.next(), held.next()) {
-        (None, _) => Some("an unsound record").filter(|_| !is_sound(&told.record(form))),
+        (None, _) => why_no_record(form, &told.record(form)),
         (Some(reason), None) => Some(reason),
+        _ => None,
+    }
+}
+
+/// The one reason why the record that bytes tell is not taken: it is unsound, or in the old form it has several root frames.
+fn why_no_record(form: Form, record: &[u32]) -> Option<&'static str> {
+    match (is_sound(record), form == Form::New || one_root_frame(record)) {
+        (false, true) => Some("an unsound record"),
+        (true, false) => Some("several root frames"),
         _ => None,
     }
 }

@@ -1,39 +1,45 @@
 //! Random scripts for the script program, and the comparison of what it prints with what the reference prints.
 use crate::random::Random;
-use crate::records::{delta_within, document_to_replace, frame_to_drop, visible_document};
-use reference::script::{output, Window};
+use crate::records::{delta_within, document_to_replace, frame_to_drop, root_frame, visible_document};
+use reference::script::{output, Table};
 use std::io::{Read, Write};
 use std::process::{Command, Stdio};
 
 /// Lines that are `bad` for one small reason each.
-const BAD: [&str; 63] = [
+const BAD: [&str; 88] = [
     "", " ", "open", "nav", "go", "open ", "nav ", "go ", "open  0", "open 0 ", " open 0", "open\t0", "Open 0", "OPEN 0", "opens 0", "open 00", "open 01",
     "open +1", "open -1", "open -0", "open 4294967296", "nav 4294967300", "nav 18446744073709551616", "nav 0x1", "nav 1.0", "nav 1,", "nav 0\r", "go -0",
     "go +1", "go 2147483648", "go -2147483649", "go --1", "go -", "go - 1", "go -01", "navigate 0",
     "drop", "drop ", "drop  1", "drop 1 ", " drop 1", "drop\t1", "Drop 1", "drops 1", "drop 01", "drop +1", "drop -1", "drop -0", "drop 4294967296",
     "drop 1\r", "replace", "replace ", "replace  1", "replace 1 ", " replace 1", "replace\t1", "Replace 1", "replaces 1", "replac 1", "replace 01",
     "replace -1", "replace 4294967296", "replace 1\r",
+    "tab ", " tab", "tab 0", "Tab", "TAB", "tabs", "ta", "tab\t", "tab\r",
+    "go 1 ", "go 1  0", "go  1 0", "go 1 0 ", "go 1 0 0", "go 1\t0", "go 1 +0", "go 1 -1", "go 1 -0", "go 1 00", "go 1 01", "go 1 4294967296",
+    "go 1 18446744073709551616", "go 1 0x1", "go 1 0\r", "go -0 0",
 ];
 
-/// A script of so many lines, and what the reference prints for it. It follows the window that the reference keeps,
+/// A script of so many lines, and what the reference prints for it. It follows the table that the reference keeps,
 /// so most lines mean something.
 pub fn script(random: &mut Random, lines: usize) -> (Vec<u8>, Vec<u8>) {
-    let mut window = Window::new();
+    let mut table = Table::new();
     let (mut text, mut answers) = (Vec::new(), Vec::new());
     // A long script goes back, drops and replaces so little that the table gets full.
     let (bad_share, drop_share, replace_share, widest_go) =
         if lines > 1000 { (2, 1, 1, 1) } else { (random.pick(&[0, 2, 10, 60]), random.pick(&[0, 3, 15]), random.pick(&[0, 5, 20]), random.pick(&[1, 3, 600])) };
+    let tab_share = random.pick(&[0, 2, 10]);
     for _ in 0..lines {
         let line = if random.chance(bad_share) {
             bad_line(random)
         } else if random.chance(drop_share) {
-            drop_line(random, &window.words)
+            drop_line(random, &table.words)
         } else if random.chance(replace_share) {
-            replace_line(random, &window.words)
+            replace_line(random, &table.words)
+        } else if random.chance(tab_share) {
+            b"tab".to_vec()
         } else {
-            good_line(random, &window.words, widest_go)
+            good_line(random, &table.words, widest_go)
         };
-        answers.extend(window.answer(&line).bytes());
+        answers.extend(table.answer(&line).bytes());
         answers.push(b'\n');
         text.extend(line);
         text.push(b'\n');
@@ -62,10 +68,21 @@ fn good_line(random: &mut Random, words: &[u32], widest_go: i64) -> Vec<u8> {
     let line = match random.below(20) {
         0..=7 => format!("open {document}"),
         8..=14 => format!("nav {document}"),
-        15 => format!("go {}", random.pick(&[i32::MIN, i32::MAX, 0, 513, -513])),
-        _ => format!("go {}", (delta_within(random, words, 1) as i64).clamp(-widest_go, widest_go)),
+        15 => format!("go {}{}", random.pick(&[i32::MIN, i32::MAX, 0, 513, -513]), random.pick(&["", " 0", " 1"])),
+        _ => go_line(random, words, widest_go),
     };
     line.into_bytes()
+}
+
+/// A traversal of a window that most likely accepts it; root frame 0 is left out or not.
+fn go_line(random: &mut Random, words: &[u32], widest_go: i64) -> String {
+    let root = match random.below(10) {
+        0 => random.telling_word(),
+        1 => random.below(words[2] as usize + 2) as u32,
+        _ => root_frame(random, words),
+    };
+    let delta = (delta_within(random, words, root, 1) as i64).clamp(-widest_go, widest_go);
+    if root == 0 && random.chance(60) { format!("go {delta}") } else { format!("go {delta} {root}") }
 }
 
 fn drop_line(random: &mut Random, words: &[u32]) -> Vec<u8> {
@@ -86,15 +103,16 @@ fn bad_line(random: &mut Random) -> Vec<u8> {
     match random.below(8) {
         0..=3 => random.pick(&BAD).into(),
         // Digits up to and past the longest line, zeros in front among them.
-        4 => [random.pick(&["nav ", "drop ", "replace "]).as_bytes(), &vec![random.pick(b"0123456789"); length]].concat(),
+        4 => [random.pick(&["nav ", "drop ", "replace ", "go 1 "]).as_bytes(), &vec![random.pick(b"0123456789"); length]].concat(),
         // A good line's text and then too much of it.
-        5 => [b"open 0".as_slice(), &vec![random.pick(b" 0x\r\0"); length]].concat(),
+        5 => [random.pick(&["open 0", "tab", "go 0 0"]).as_bytes(), &vec![random.pick(b" 0x\r\0"); length]].concat(),
         6 => random.bytes(length).into_iter().filter(|&byte| byte != b'\n').collect(),
         _ => {
             // A good line with one byte changed; it may stay good.
-            let mut line = random.pick(&["open 0", "nav 12", "go -1", "go 1", "nav 4294967295", "go -2147483648", "drop 1", "replace 1"]).as_bytes().to_vec();
+            let good = ["open 0", "nav 12", "go -1", "go 1", "nav 4294967295", "go -2147483648", "drop 1", "replace 1", "tab", "go 1 0", "go -1 12", "go 0 4294967295"];
+            let mut line = random.pick(&good).as_bytes().to_vec();
             let at = random.below(line.len());
-            line[at] = random.pick(b" 0129-+/:aceglnopr\0\xff\r");
+            line[at] = random.pick(b" 0129-+/:abceglnoprt\0\xff\r");
             line
         }
     }

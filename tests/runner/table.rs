@@ -1,10 +1,11 @@
 //! The table of document 01, "Nine ways to say no", with document 02's refusals, and a count of what occurred of it.
 use crate::request::{Call, Request, CALLS};
 use crate::saves::{self, UNORDERED};
-use crate::stores;
+use crate::{stores, windows};
 use reference::calls::position;
 use reference::record::{capacity, rows};
-use reference::sound::{broken, rises};
+use reference::sound::{broken, one_root_frame, rises};
+use reference::windows::root_frames;
 use std::collections::BTreeMap;
 use std::ops::RangeInclusive;
 
@@ -22,12 +23,13 @@ pub fn allowed(call: Call, refusal: u32) -> bool {
         4 => matches!(call, Open | Navigate | Drop | Replace | Visible) || call.has_store(),
         5 => matches!(call, Open | Navigate | Drop | Replace),
         6 => matches!(call, Traverse | Stretch),
-        7 => matches!(call, Open | Navigate) || call.loads(),
-        8 => matches!(call, Open | Navigate | Replace),
+        7 => matches!(call, Open | Navigate | Tab) || call.loads(),
+        8 => matches!(call, Open | Navigate | Replace | Tab),
         9 => matches!(call, Traverse | Lists | Outline | Save),
         10 => call == Drop,
         11 => matches!(call, PlaceAt | PlaceAtZoom),
         12 => matches!(call, PlaceItself | PlaceAt),
+        13 => call.names_window(),
         15 => call.has_store(),
         _ => false,
     }
@@ -49,25 +51,27 @@ const REPLACEMENTS: [&str; 4] = ["nothing beneath", "taken steps beneath", "an u
 fn replacement(request: &Request) -> Vec<&'static str> {
     let words = &request.words;
     let after = request.expected().words;
-    let stands = |words: &[u32]| position(words).expect("an accepted call's record is sound");
+    let place = rows(words).iter().position(|row| row.document == request.number).expect("a document of the record");
+    let root = root_frames(&rows(words))[place];
+    let stands = |words: &[u32]| position(words, root).expect("an accepted call's record is sound and keeps its windows");
     let ((before, ..), (now, steps, _)) = (stands(words), stands(&after));
     let met = [after[0] == words[0], now < before, now < steps, words[0] as usize == capacity(words.len())];
     REPLACEMENTS.into_iter().zip(met).filter(|(_, met)| *met).map(|(way, _)| way).collect()
 }
 
-/// The ways that a call must have come to its answers: who hides a document, where it tells that; what the store or the saved bytes hold; what a
-/// replacement met; and on a record whose numbers do not rise.
+/// The ways that a call must have come to its answers: who hides a document, where it tells that; what the store or the saved bytes hold; what
+/// windows it met; what a replacement met; and on a record whose numbers do not rise.
 fn ways_of(call: Call) -> Vec<&'static str> {
     let hiders = if call == Call::Visible || allowed(call, 5) { HIDERS.as_slice() } else { &[] };
     let replacements = if call == Call::Replace { REPLACEMENTS.as_slice() } else { &[] };
     let unordered = if call.examines() { [UNORDERED].as_slice() } else { &[] };
-    [hiders, &stores::ways_of(call), &saves::ways_of(call), replacements, unordered].concat()
+    [hiders, &stores::ways_of(call), &saves::ways_of(call), &windows::ways_of(call), replacements, unordered].concat()
 }
 
 /// The ways in which a call came to this answer.
 fn ways(request: &Request, refusal: u32) -> Vec<&'static str> {
     let call = request.call;
-    let mut ways = Vec::new();
+    let mut ways = windows::ways(request, refusal);
     if refusal == 5 || (call == Call::Visible && refusal == 0) {
         ways.extend(hider(&request.not_shown()));
     }
@@ -86,12 +90,15 @@ fn ways(request: &Request, refusal: u32) -> Vec<&'static str> {
     ways
 }
 
-/// The clauses of soundness, S2 by its two halves.
-const CLAUSES: [&str; 9] = ["S1", "S2, a number twice", "S2, one not below word 1", "S3", "S4", "S5", "S6", "S7", "S8"];
+/// The clauses of soundness, S2 by its two halves, S7 in a record of one window and of several.
+const CLAUSES: [&str; 10] = ["S1", "S2, a number twice", "S2, one not below word 1", "S3", "S4", "S5", "S6", "S7", "S7 of several windows", "S8"];
 
 /// The clause that alone fails of an unsound record; none where there are several.
 fn failing(words: &[u32]) -> Option<&'static str> {
     let [clause] = broken(words)[..] else { return None };
+    if clause == 7 && !one_root_frame(words) {
+        return Some("S7 of several windows");
+    }
     if clause != 2 {
         return CLAUSES.into_iter().find(|name| *name == format!("S{clause}"));
     }

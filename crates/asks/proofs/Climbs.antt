@@ -6,37 +6,25 @@ use mathlib.Core.Path.{_≡_, refl, sym, ap, subst, _∙_}
 use native.Mathlib.Omega.{arith}
 use lib.Dec.{eqb, ltb}
 use lib.ListN.{length, List·getD-eq-default}
-use borrow.Author.Tests.{eq-eqb, ne-eqb, eqb-true, lt-ltb, le-ltb}
+use borrow.Author.Tests.{ne-eqb, lt-ltb, le-ltb}
 use Rattle.base.specs.declared.RowPlace.{RowPlace}
 use Rattle.base.specs.declared.Refusal.the-variants.{Absent}
 use Rattle.rules.specs.Rows.{Row, noRow, none, rowAt, docAt, parentAt, isShown, isDoc, inRecord, climb}
 use Rattle.rules.specs.Steps.{Hider, isNobody, Climb, ended, further, climbAsk, lost, climbAt, climbOf, hiderAt, hiderOf, visibleAt}
 use Rattle.rules.specs.Words.{capacity, rowsOf}
-use Rattle.laws.proofs.Tests.{test, clash, some-in, some-out, greatest, latest-is}
-use Rattle.laws.proofs.Climb.{climb-none, climb-found, climbs-itself, climbs-nobody, links-at}
+use Rattle.laws.proofs.Tests.{test}
+use Rattle.laws.proofs.Climb.{climbs-itself, climbs-nobody, links-at}
 use Rattle.reads.specs.Found.{foundBelow}
 use Rattle.reads.specs.declared.Found.{Found}
 use Rattle.reads.specs.declared.Found.the-variants.{At, Nothing}
 use Rattle.reads.specs.Within.{Within}
+use Rattle.reads.proofs.Climbs.{climb-at, climb-lost}
 use Rattle.reads.proofs.Scans.{found-at, found-lower, found-nothing}
 use Rattle.rows.specs.Readable.{readableRows}
 use Rattle.rows.proofs.Readable.{readable-rows, readable-within}
 use Rattle.asks.specs.Answers.{hiderBy, Means, Coded, sightBy, sightOf, SightIs}
 use Rattle.asks.specs.declared.Sight.{Sight}
 use Rattle.asks.specs.declared.Sight.the-variants.{Refused}
-
--- Where the scan for a document ended, the question goes on.
-module _ {A : Type 0} (lost : A) (ask : (ℕ → A) → ℕ → A) (rows : List Row) (k d : ℕ) where
-  pub climb-at : (q : RowPlace) → foundBelow (isDoc rows d) k ≡ At q → climb lost ask rows k d ≡ ask (climb lost ask rows (q .0)) (q .0)
-  climb-at q e =
-      let r = found-at (isDoc rows d) k q e in
-      let o = some-out (isDoc rows d) k (r .0) in
-      let g = greatest (isDoc rows d) k (o .1) (o .2) in
-      let same : g .0 ≡ q .0 = sym (latest-is (isDoc rows d) k (g .2) (g .3) (g .4)) ∙ r .1 in
-      climb-found lost ask rows k d (g .2) (eqb-true _ _ (g .3)) (λ m a b h. g .4 m a b (eq-eqb _ _ h)) ∙ ap (λ j. ask (climb lost ask rows j) j) same
-
-  pub climb-lost : foundBelow (isDoc rows d) k ≡ Nothing → climb lost ask rows k d ≡ lost
-  climb-lost e = climb-none lost ask rows k d (λ j l h. clash (some-in (isDoc rows d) k l (eq-eqb _ _ h)) (found-nothing (isDoc rows d) k e))
 
 module _ (rows : List Row) (k : ℕ) (s : Bool) (shown : s ≡ isShown rows k) where
   pub hidden-ends : s ≡ false → climbAt rows k ≡ ended (Hider.document (docAt rows k))

@@ -1,4 +1,3 @@
 pub mod Climbs
 pub mod Answered
 pub mod Judged
-pub mod Listing

@@ -9,20 +9,12 @@ use Rattle.base.specs.Numbers.{numberOf, carriedBy}
 use Rattle.rules.specs.Rows.{Row, none, inRecord}
 use Rattle.rules.specs.Steps.{Hider as Hides, Climb, climbOf, hiderOf}
 use Rattle.rules.specs.Calls.{Answer}
-use Rattle.asks.specs.declared.Standing.{Standing}
-use Rattle.asks.specs.declared.Standing.the-variants as Standings
 use Rattle.asks.specs.declared.Sight.{Sight}
 use Rattle.asks.specs.declared.Sight.the-variants as Sights
 use Rattle.asks.specs.declared.Hider.{Hider}
 use Rattle.asks.specs.declared.Hider.the-variants as Hiders
 use Rattle.asks.specs.declared.Stretched.{Stretched}
 use Rattle.asks.specs.declared.Stretched.the-variants as Stretches
-use Rattle.asks.specs.declared.Listed.{Listed}
-use Rattle.asks.specs.declared.Listed.the-variants as Lists
-
-abbrev pub standingIs : Standing → Answer
-standingIs (Standings.At position steps length) = Answer.gives (position ∷ steps ∷ length ∷ [])
-standingIs (Standings.Refused r) = Answer.refuses (numberOf r) (carriedBy r)
 
 abbrev pub sightIs : Sight → Answer
 sightIs (Sights.Visible links) = Answer.gives (1 ∷ none ∷ links ∷ [])
@@ -66,7 +58,3 @@ SightIs rows d (Sights.Refused r) = (inRecord rows d ≡ false) × (r ≡ Absent
 abbrev pub stretchIs : Stretched → Answer
 stretchIs (Stretches.Count n) = Answer.gives (n ∷ [])
 stretchIs (Stretches.Refused r) = Answer.refuses (numberOf r) (carriedBy r)
-
-abbrev pub listedIs : Listed → Answer
-listedIs (Lists.Counts taken upcoming) = Answer.gives (taken ∷ upcoming ∷ [])
-listedIs (Lists.Refused r) = Answer.refuses (numberOf r) (carriedBy r)

@@ -1,42 +1,20 @@
-// The questions: position, visible, lists, stretch.
+// The questions that name no window: visible, stretch; and what hides a document, for the calls that ask it.
 use base::DocNo;
-use base::FrameNo;
 use base::Refusal;
 use base::RowPlace;
 use reads::Found;
 use reads::NONE;
 use sound::Check;
-use sound::Stand;
-use sound::Survey;
 ghost use mathlib.Core.Path.{_≡_};
-ghost use mathlib.Core.List.{[], _∷_};
-ghost use lib.ListN.{length};
-ghost use Prim.Native.Nat.{_-_, _/_, _%_, _≤_, _<_, max};
+ghost use mathlib.Core.List.{[]};
+ghost use Prim.Native.Nat.{_-_, _/_, _%_, _<_};
 ghost use Rattle.rules.specs.Steps.{isNobody, climbAt, hiderAt, visibleAt};
 ghost use Rattle.rules.specs.Words.{rowsOf};
 ghost use Rattle.rules.specs.Asks.{ownList, stretched};
 ghost use Rattle.rules.specs.Calls.{Call, outcome};
 ghost use Rattle.reads.specs.Within.{Within};
-ghost use Rattle.sound.specs.Survey.{Located};
 ghost use Rattle.rows.specs.Readable.{readableRows};
-ghost use Rattle.asks.specs.Answers.{standingIs, sightIs, sightOf, hiderIs, hiderBy, Coded, stretchIs, listedIs};
-ghost use Rattle.asks.specs.Listing.{takenWith, upcomingWith, Begun, TakensTo, TakensFrom, UpcomingsTo, UpcomingsFrom};
-
-// Where the window stands: position, steps, and the length for scripts.
-pub enum Standing {
-    At(usize, usize, usize),
-    Refused(Refusal),
-}
-
-// Position, steps and length of the record.
-pub fn position(words: &[u32]) -> Standing
-    ensures { λ r. ⌜ outcome (Call.Position (now (words .entry))) ≡ record { answer = standingIs r; lent = [] } ⌝ }
-{
-    match sound::locate(words) {
-        Survey::No(r) => Standing::Refused(r),
-        Survey::Stands(s) => Standing::At(s.position, s.steps, s.steps + 1),
-    }
-}
+ghost use Rattle.asks.specs.Answers.{sightIs, sightOf, hiderIs, hiderBy, Coded, stretchIs};
 
 // Whether a document can be seen, and if not, who hides it; and how many parent links were followed to tell.
 pub enum Sight {
@@ -197,117 +175,4 @@ pub fn stretch_count<'a>(taken: &'a [u32], upcoming: &'a [u32], delta: i32) -> S
         return Stretched::Refused(Refusal::Beyond);
     }
     Stretched::Count(n)
-}
-
-// How many steps are taken, and how many upcoming.
-pub enum Listed {
-    Counts(usize, usize),
-    Refused(Refusal),
-}
-
-// Stores a step's document: the m-th step is taken where m is below the position, else upcoming.
-fn list_step(
-    step: bool,
-    d: DocNo,
-    m: usize,
-    position: usize,
-    taken: &mut [u32],
-    upcoming: &mut [u32],
-)
-    ensures takens { λ _. ⌜ now (taken .exit) ≡ takenWith step m position (d .0) (now (taken .entry)) ⌝ }
-    ensures upcomings { λ _. ⌜ now (upcoming .exit) ≡ upcomingWith step m position (d .0) (now (upcoming .entry)) ⌝ }
-{
-    if step {
-        if m < position {
-            writes::store(taken, position - 1 - m, d.0);
-        } else {
-            writes::store(upcoming, m - position, d.0);
-        }
-    }
-}
-
-// Stores the steps among the first rows, up to where every frame has begun. That place: all rows from there on are steps.
-fn list_mixed(words: &[u32], s: Stand, taken: &mut [u32], upcoming: &mut [u32]) -> RowPlace
-    requires { ⌜ Located (now words) s ⌝ }
-    ensures begun { λ r. ⌜ Begun (rowsOf (now (words .entry))) (r .0) ⌝ }
-    ensures takens { λ r. ⌜ TakensTo (rowsOf (now (words .entry))) (r .0) (now (taken .entry)) (now (taken .exit)) ⌝ }
-    ensures upcomings { λ r. ⌜ UpcomingsTo (rowsOf (now (words .entry))) (r .0) (now (upcoming .entry)) (now (upcoming .exit)) ⌝ }
-{
-    let frames = s.frames;
-    let mut m = 0;
-    let mut high = FrameNo(0);
-    let mut i = 0;
-    while i - m < frames {
-        let at = RowPlace(i);
-        let step = reads::is_step(words, at, high);
-        let d = reads::document(words, at);
-        list_step(step, d, m, s.position, taken, upcoming);
-        high = reads::higher(high, reads::frame(words, at));
-        m += step as usize;
-        i += 1;
-    }
-    RowPlace(i)
-}
-
-// The later of two places.
-fn later(a: RowPlace, b: RowPlace) -> RowPlace
-    ensures { λ r. ⌜ r .0 ≡ max (a .0) (b .0) ⌝ }
-{
-    if a.0 < b.0 { b } else { a }
-}
-
-// Stores the taken steps from a place on, from which all rows are steps.
-fn list_taken(words: &[u32], from: RowPlace, s: Stand, taken: &mut [u32])
-    requires { ⌜ Located (now words) s × Begun (rowsOf (now words)) (from .0) × (s .position ≤ length (now taken)) ⌝ }
-    ensures { λ _. ⌜ TakensFrom (rowsOf (now (words .entry))) (from .0) (now (taken .entry)) (now (taken .exit)) ⌝ }
-{
-    let end = s.upcoming.0;
-    let mut i = from.0;
-    while i < end {
-        taken[end - 1 - i] = reads::document(words, RowPlace(i)).0;
-        i += 1;
-    }
-}
-
-// Stores the upcoming steps from a place on, from which all rows are steps.
-fn list_upcoming(words: &[u32], from: RowPlace, s: Stand, upcoming: &mut [u32])
-    requires { ⌜ Located (now words) s × Begun (rowsOf (now words)) (from .0) × (s .steps - s .position ≤ length (now upcoming)) ⌝ }
-    ensures { λ _. ⌜ UpcomingsFrom (rowsOf (now (words .entry))) (from .0) (now (upcoming .entry)) (now (upcoming .exit)) ⌝ }
-{
-    let n = rows::row_count(words);
-    let first = s.frames + s.position;
-    let mut i = later(from, s.upcoming).0;
-    while i < n {
-        upcoming[i - first] = reads::document(words, RowPlace(i)).0;
-        i += 1;
-    }
-}
-
-// Taken and upcoming steps of a sound record that stands so.
-fn list(words: &[u32], s: Stand, taken: &mut [u32], upcoming: &mut [u32]) -> Listed
-    requires { ⌜ Located (now words) s ⌝ }
-    ensures { λ r. ⌜ outcome (Call.Lists (now (words .entry)) (now (taken .entry)) (now (upcoming .entry))) ≡ record { answer = listedIs r; lent = now (taken .exit) ∷ now (upcoming .exit) ∷ [] } ⌝ }
-{
-    let position = s.position;
-    let ahead = s.steps - position;
-    if taken.len() < position {
-        return Listed::Refused(Refusal::ShortBuffer);
-    }
-    if upcoming.len() < ahead {
-        return Listed::Refused(Refusal::ShortBuffer);
-    }
-    let begun = list_mixed(words, s, taken, upcoming);
-    list_taken(words, begun, s, taken);
-    list_upcoming(words, begun, s, upcoming);
-    Listed::Counts(position, ahead)
-}
-
-// Taken steps, latest first, and upcoming steps, earliest first.
-pub fn lists(words: &[u32], taken: &mut [u32], upcoming: &mut [u32]) -> Listed
-    ensures { λ r. ⌜ outcome (Call.Lists (now (words .entry)) (now (taken .entry)) (now (upcoming .entry))) ≡ record { answer = listedIs r; lent = now (taken .exit) ∷ now (upcoming .exit) ∷ [] } ⌝ }
-{
-    match sound::locate(words) {
-        Survey::No(r) => Listed::Refused(r),
-        Survey::Stands(s) => list(words, s, taken, upcoming),
-    }
 }

@@ -40,6 +40,8 @@ pub enum Refusal {
     NotFinite,
     // no entry for the place, even after freeing
     NoEntry,
+    // no root frame has the number
+    NoRoot,
     // the entries of the store of places that are not free hold a document twice, a kind above 1 or a point that is not finite
     BadPlaces,
 }
@@ -61,6 +63,7 @@ pub fn refusal_number(refusal: Refusal) -> u32
         Refusal::RootFrame => 10,
         Refusal::NotFinite => 11,
         Refusal::NoEntry => 12,
+        Refusal::NoRoot => 13,
         Refusal::BadPlaces => 15,
     }
 }

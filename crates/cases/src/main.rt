@@ -1,12 +1,13 @@
-// Document 01's P1 to P12, the cases of Drop, of who hides a document and of Replace, run: every call's answer, and of the record at the end its position, length and
-// visible documents.
+// Document 01's P1 to P12, the cases of Drop, of who hides a document, of Replace and of two windows, run: every call's answer, and of the record at the end the position
+// and length of window 0 and the visible documents.
 use asks::Sight;
-use asks::Standing;
 use base::Carried;
 use base::DocNo;
 use base::FrameNo;
 use base::Refusal;
 use drops::Dropped;
+use lists::Listed;
+use lists::Standing;
 use moves::Freshened;
 use moves::Opened;
 use navigates::Navigated;
@@ -54,12 +55,9 @@ fn fresh(words: &mut [u32]) {
     }
 }
 
-// Open, told.
-fn open(words: &mut [u32], parent: u32) {
-    say(b"  open ");
-    say_number(parent as u64);
-    say(b": ");
-    match moves::open_frame(words, DocNo(parent)) {
+// The numbers of what was opened.
+fn say_opened(o: Opened) {
+    match o {
         Opened::Numbers(d, f) => {
             say(b"document ");
             say_number(d.0 as u64);
@@ -69,6 +67,20 @@ fn open(words: &mut [u32], parent: u32) {
         }
         Opened::Refused(r) => say_refused(r),
     }
+}
+
+// Open, told.
+fn open(words: &mut [u32], parent: u32) {
+    say(b"  open ");
+    say_number(parent as u64);
+    say(b": ");
+    say_opened(moves::open_frame(words, DocNo(parent)));
+}
+
+// A new window, told.
+fn tab(words: &mut [u32]) {
+    say(b"  tab: ");
+    say_opened(moves::open_window(words));
 }
 
 // Navigate, told.
@@ -138,13 +150,11 @@ fn say_change(row: &[u32; 4]) {
     say(b")\n");
 }
 
-// Traverse, told, with one change row.
-fn go(words: &mut [u32], delta: i32) {
-    say(b"  go ");
-    say_amount(delta);
+// Traverse's answer, with one change row.
+fn say_traversed(words: &mut [u32], root: u32, delta: i32) {
     say(b": ");
     let mut row = [9u32; 4];
-    match traverses::traverse(words, delta, &mut row) {
+    match traverses::traverse(words, FrameNo(root), delta, &mut row) {
         Traversed::Changes(n) => {
             say_number(n as u64);
             say(b" changed");
@@ -152,6 +162,22 @@ fn go(words: &mut [u32], delta: i32) {
         }
         Traversed::Refused(r) => say_refused(r),
     }
+}
+
+// Traverse of window 0, told.
+fn go(words: &mut [u32], delta: i32) {
+    say(b"  go ");
+    say_amount(delta);
+    say_traversed(words, 0, delta);
+}
+
+// Traverse of the window with this root frame, told.
+fn go_in(words: &mut [u32], root: u32, delta: i32) {
+    say(b"  go ");
+    say_amount(delta);
+    say(b" in ");
+    say_word(root);
+    say_traversed(words, root, delta);
 }
 
 // How many links a climb followed.
@@ -204,16 +230,22 @@ fn say_documents(words: &[u32]) {
     say_visible(words, 8);
 }
 
-// Position, steps, length and visible documents of a record.
+// Position, steps and length.
+fn say_position(p: usize, s: usize, l: usize) {
+    say(b"position ");
+    say_number(p as u64);
+    say(b" of ");
+    say_number(s as u64);
+    say(b", length ");
+    say_number(l as u64);
+}
+
+// Position, steps and length of window 0, and the visible documents of a record.
 fn stand(words: &[u32]) {
-    match asks::position(words) {
+    match lists::position(words, FrameNo(0)) {
         Standing::At(p, s, l) => {
-            say(b"  position ");
-            say_number(p as u64);
-            say(b" of ");
-            say_number(s as u64);
-            say(b", length ");
-            say_number(l as u64);
+            say(b"  ");
+            say_position(p, s, l);
             say(b", visible");
             say_documents(words);
             say(b"\n");
@@ -222,6 +254,42 @@ fn stand(words: &[u32]) {
             say(b"  position: ");
             say_refused(r);
         }
+    }
+}
+
+// Position, steps and length of the window with this root frame.
+fn stand_in(words: &[u32], root: u32) {
+    say(b"  window ");
+    say_word(root);
+    say(b": ");
+    match lists::position(words, FrameNo(root)) {
+        Standing::At(p, s, l) => {
+            say_position(p, s, l);
+            say(b"\n");
+        }
+        Standing::Refused(r) => say_refused(r),
+    }
+}
+
+// Lists, told, with room for one step in each.
+fn list(words: &[u32], root: u32) {
+    say(b"  lists of ");
+    say_word(root);
+    say(b": ");
+    let mut taken = [9u32; 1];
+    let mut upcoming = [9u32; 1];
+    match lists::lists(words, FrameNo(root), &mut taken, &mut upcoming) {
+        Listed::Counts(t, u) => {
+            say_number(t as u64);
+            say(b" taken (");
+            say_word(taken[0]);
+            say(b"), ");
+            say_number(u as u64);
+            say(b" upcoming (");
+            say_word(upcoming[0]);
+            say(b")\n");
+        }
+        Listed::Refused(r) => say_refused(r),
     }
 }
 
@@ -326,11 +394,10 @@ fn p8() {
     stand(&words);
 }
 
-// "P9. [..] refused 2 (S7)."
-fn p9() {
-    say(b"P9\n");
-    let words = [
-        5u32,
+// P9: "Documents 0 to 4, frames {0}, {1,3}, {2,4} numbered 0 to 2, parents none,0,0,0,0, shown 0,1,4, next 5 and 3, C = 8".
+fn record_nine() -> [u32; 35] {
+    [
+        5,
         5,
         3,
         0,
@@ -365,8 +432,13 @@ fn p9() {
         0,
         0,
         0,
-    ];
-    stand(&words);
+    ]
+}
+
+// "P9. [..] refused 2 (S7)."
+fn p9() {
+    say(b"P9\n");
+    stand(&record_nine());
 }
 
 // "P10. C = 8; fresh, open 0, navigate 0, open 2, by -1: visible 0,1."
@@ -656,6 +728,187 @@ fn r10_and_r11() {
     stand(&few);
 }
 
+// A card with root frame 1 beside the main window: steps in turn, and Back in either.
+fn w1_and_w2() {
+    say(b"W1\n");
+    let mut card = [7u32; 35];
+    fresh(&mut card);
+    tab(&mut card);
+    navigate(&mut card, 0);
+    navigate(&mut card, 1);
+    go_in(&mut card, 1, -1);
+    stand(&card);
+    stand_in(&card, 1);
+    say(b"W2\n");
+    let mut main = [7u32; 35];
+    fresh(&mut main);
+    tab(&mut main);
+    navigate(&mut main, 0);
+    navigate(&mut main, 1);
+    go(&mut main, -1);
+    stand(&main);
+    stand_in(&main, 1);
+}
+
+// A frame beneath a root frame, and a number of no frame; neither window can be dropped.
+fn w3_and_w4() {
+    say(b"W3\n");
+    let mut words = record_x();
+    go_in(&mut words, 1, -1);
+    go_in(&mut words, 9, -1);
+    stand(&words);
+    say(b"W4\n");
+    let mut two = [7u32; 35];
+    fresh(&mut two);
+    tab(&mut two);
+    take_out(&mut two, 1);
+    take_out(&mut two, 0);
+    stand(&two);
+}
+
+// Step 2 of the card is upcoming, and 3 lies in it.
+fn ahead_in_card() -> [u32; 35] {
+    let mut words = [7u32; 35];
+    fresh(&mut words);
+    tab(&mut words);
+    navigate(&mut words, 1);
+    open(&mut words, 2);
+    go_in(&mut words, 1, -1);
+    words
+}
+
+// Navigating in the main window keeps both; navigating in the card clears both.
+fn w5_and_w6() {
+    say(b"W5\n");
+    let mut kept = ahead_in_card();
+    navigate(&mut kept, 0);
+    stand(&kept);
+    stand_in(&kept, 1);
+    say(b"W6\n");
+    let mut cleared = ahead_in_card();
+    navigate(&mut cleared, 1);
+    stand(&cleared);
+    stand_in(&cleared, 1);
+}
+
+// A full table whose only upcoming step is the card's: there is room for a step in the card alone.
+fn w7() {
+    say(b"W7\n");
+    let mut words = [7u32; 15];
+    fresh(&mut words);
+    tab(&mut words);
+    navigate(&mut words, 1);
+    go_in(&mut words, 1, -1);
+    navigate(&mut words, 0);
+    navigate(&mut words, 1);
+    stand(&words);
+}
+
+// What is opened under the card's document is the card's; replacing and dropping there leave the main window.
+fn w8() {
+    say(b"W8\n");
+    let mut words = [7u32; 35];
+    fresh(&mut words);
+    tab(&mut words);
+    open(&mut words, 1);
+    navigate(&mut words, 0);
+    replace(&mut words, 1);
+    open(&mut words, 4);
+    take_out(&mut words, 3);
+    stand(&words);
+}
+
+// Fresh with other next numbers.
+fn next(d: u32, f: u32) -> [u32; 11] {
+    [1, d, f, 0, 0, NONE, 1, 0, 0, 0, 0]
+}
+
+// Frame 0 lies in the document of frame 1; the table is full, and all numbers are used.
+fn swapped() -> [u32; 11] {
+    [2, NONE, NONE, 0, 1, NONE, 1, 1, 0, 0, 1]
+}
+
+// "opening a window gives 1, 2, 7 and 8": in this order.
+fn tabs() {
+    say(b"Tabs\n");
+    let mut one = next(1, 1);
+    tab(&mut one);
+    let mut six = [0u32; 6];
+    tab(&mut six);
+    let mut nine = record_nine();
+    tab(&mut nine);
+    let mut full = swapped();
+    tab(&mut full);
+    let mut documents = next(NONE, 1);
+    tab(&mut documents);
+    let mut frames = next(1, NONE);
+    tab(&mut frames);
+}
+
+// Documents 0 and 2 of root frame 0, of which 0 is shown, 1 and 3 of root frame 1, of which 3 is, and 4 in document 1. As one window it were unsound, as P9 is.
+fn pair() -> [u32; 23] {
+    [
+        5,
+        5,
+        3,
+        0,
+        0,
+        NONE,
+        1,
+        1,
+        1,
+        NONE,
+        0,
+        2,
+        0,
+        NONE,
+        0,
+        3,
+        1,
+        NONE,
+        1,
+        4,
+        2,
+        1,
+        1,
+    ]
+}
+
+// "S7, position, steps, traversal [..] hold per window".
+fn windows_apart() {
+    say(b"Windows\n");
+    let mut words = pair();
+    stand(&words);
+    stand_in(&words, 1);
+    list(&words, 0);
+    list(&words, 1);
+    go_in(&mut words, 1, 1);
+    go_in(&mut words, 1, -1);
+    stand(&words);
+    stand_in(&words, 1);
+    let mut again = pair();
+    go(&mut again, 1);
+    stand(&again);
+    stand_in(&again, 1);
+}
+
+// "13 when no root frame has that number, after 2"; the root frame is the one without a parent, whatever its number.
+fn no_window() {
+    say(b"No window\n");
+    let mut words = record_x();
+    stand_in(&words, 1);
+    go_in(&mut words, 9, 5);
+    list(&words, 9);
+    let mut nine = record_nine();
+    stand_in(&nine, 9);
+    go_in(&mut nine, 9, 0);
+    list(&nine, 9);
+    stand_in(&[0u32; 6], 9);
+    let other = swapped();
+    stand_in(&other, 1);
+    stand_in(&other, 0);
+}
+
 // Record of 6 words, and of 7.
 fn small_records() {
     say(b"6 words\n");
@@ -691,5 +944,13 @@ fn main() {
     r5_to_r7();
     r8_and_r9();
     r10_and_r11();
+    w1_and_w2();
+    w3_and_w4();
+    w5_and_w6();
+    w7();
+    w8();
+    tabs();
+    windows_apart();
+    no_window();
     small_records();
 }

@@ -2,3 +2,4 @@ pub mod Again
 pub mod Shared
 pub mod Filling
 pub mod Rows
+pub mod Routes

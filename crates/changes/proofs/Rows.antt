@@ -10,8 +10,8 @@ use lib.Seq.{sets-eq}
 use borrow.Author.Tests.{ltb-true, ltb-false, lt-ltb}
 use Rattle.rules.specs.Rows.{Row, Table}
 use Rattle.rules.specs.Moves.{walked, frames, shownDoc, changeRow, changes}
-use Rattle.rules.specs.Words.{put, tableOf}
-use Rattle.rules.specs.Calls.{Call, Answer, tooShort, refusals, accepted, outcome, NoneGiven}
+use Rattle.rules.specs.Words.{put}
+use Rattle.rules.specs.Calls.{Call, Answer, tooShort, windowIn, refusals, accepted, outcome, NoneGiven}
 use Rattle.laws.proofs.Tests.{test, same-tests}
 use Rattle.laws.proofs.Calls.{by-ladder, outcome-accepted, outcome-refused, refused-keeps}
 use Rattle.traverses.specs.declared.Traversed.{Traversed}
@@ -62,35 +62,35 @@ abbrev run : ℕ → List (List ℕ) → List ℕ
 run k runs = getD runs k []
 
 -- Traverse with the rows lent as words, and with the rows: the same answer, the same record, and row for row the same change rows.
-pub row-for-row : (words words₁ words₂ room : List ℕ) (δ : ℤ) (rows rows' : List ChangeRow) (r₁ r₂ : Traversed) →
-    outcome (Call.Traverse words δ (plain rows)) ≡ record { answer = traversedIs r₁; lent = words₁ ∷ room ∷ [] } →
-    outcome (Call.Traverse words δ (plain rows)) ≡ record { answer = traversedIs r₂; lent = words₂ ∷ plain rows' ∷ [] } → (traversedIs r₁ ≡ traversedIs r₂) × (words₁ ≡ words₂) × (room ≡ plain rows')
-row-for-row words words₁ words₂ room δ rows rows' r₁ r₂ e f =
+pub row-for-row : (words words₁ words₂ room : List ℕ) (r : ℕ) (δ : ℤ) (rows rows' : List ChangeRow) (r₁ r₂ : Traversed) →
+    outcome (Call.Traverse words r δ (plain rows)) ≡ record { answer = traversedIs r₁; lent = words₁ ∷ room ∷ [] } →
+    outcome (Call.Traverse words r δ (plain rows)) ≡ record { answer = traversedIs r₂; lent = words₂ ∷ plain rows' ∷ [] } → (traversedIs r₁ ≡ traversedIs r₂) × (words₁ ≡ words₂) × (room ≡ plain rows')
+row-for-row words words₁ words₂ room r δ rows rows' r₁ r₂ e f =
     let s = sym e ∙ f in
     (ap (λ z. z .answer) s, ap (λ z. run 0 (z .lent)) s, ap (λ z. run 1 (z .lent)) s)
 
 -- What the promise of `traverse` says.
-module _ (words words' : List ℕ) (δ : ℤ) (rows rows' : List ChangeRow) (a : Answer)
-    (e : outcome (Call.Traverse words δ (plain rows)) ≡ record { answer = a; lent = words' ∷ plain rows' ∷ [] }) where
+module _ (words words' : List ℕ) (r : ℕ) (δ : ℤ) (rows rows' : List ChangeRow) (a : Answer)
+    (e : outcome (Call.Traverse words r δ (plain rows)) ≡ record { answer = a; lent = words' ∷ plain rows' ∷ [] }) where
   abbrev asked : Call
-  asked = Call.Traverse words δ (plain rows)
+  asked = Call.Traverse words r δ (plain rows)
 
   -- A refusal changes neither words nor rows.
   pub rows-kept : (k : ℕ) (vs : List ℕ) → a ≡ Answer.refuses k vs → (words' ≡ words) × (rows' ≡ rows)
-  rows-kept k vs r =
-      let s : words' ∷ plain rows' ∷ [] ≡ words ∷ plain rows ∷ [] = ap (λ z. z .lent) (sym e) ∙ refused-keeps asked k vs (ap (λ z. z .answer) e ∙ r) in
+  rows-kept k vs e' =
+      let s : words' ∷ plain rows' ∷ [] ≡ words ∷ plain rows ∷ [] = ap (λ z. z .lent) (sym e) ∙ refused-keeps asked k vs (ap (λ z. z .answer) e ∙ e') in
       (ap (run 0) s, plain-same rows' rows (ap (run 1) s))
 
   -- The answer n counts the change rows; the first n rows are these, and further rows keep what they held.
-  pub rows-written : (n : ℕ) → a ≡ Answer.gives (n ∷ []) → (n ≡ length (changesOf (tableOf words) δ)) × (rows' ≡ changesOf (tableOf words) δ ++ drop n rows)
+  pub rows-written : (n : ℕ) → a ≡ Answer.gives (n ∷ []) → (n ≡ length (changesOf (windowIn words r) δ)) × (rows' ≡ changesOf (windowIn words r) δ ++ drop n rows)
   unfolding refusals NoneGiven accepted put
   rows-written n g =
-      let t = tableOf words in
-      let h : NoneGiven (refusals asked) = by-ladder (refusals asked) (λ h. h) (λ k vs r.
-      let f : Answer.refuses k vs ≡ Answer.gives (n ∷ []) = ap (λ z. z .answer) (sym (outcome-refused asked k vs r) ∙ e) ∙ g in
+      let t = windowIn words r in
+      let h : NoneGiven (refusals asked) = by-ladder (refusals asked) (λ h. h) (λ k vs x.
+      let f : Answer.refuses k vs ≡ Answer.gives (n ∷ []) = ap (λ z. z .answer) (sym (outcome-refused asked k vs x) ∙ e) ∙ g in
       absurd (let z : _≡_ {A = ℕ} 0 1 = cc in omega arith)) in
       let s = sym (outcome-accepted asked h) ∙ e in
-      let l = ltb-false (length (plain rows)) (length (changes t δ)) (h .1 .1 .1 .0) in
+      let l = ltb-false (length (plain rows)) (length (changes t δ)) (h .1 .1 .1 .1 .0) in
       let c = changes-length t δ in
       let m : Answer.gives (length (changes t δ) / 4 ∷ []) ≡ Answer.gives (n ∷ []) = ap (λ z. z .answer) s ∙ g in
       let p : length (changes t δ) / 4 ≡ n = cc in

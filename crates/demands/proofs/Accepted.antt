@@ -1,18 +1,18 @@
 -- When a call is accepted, what an accepted Traverse may rely on, and the table that a move leaves. Assumes nothing.
 use Prim.Native.Nat.{ℕ, _≤_}
 use mathlib.Core.List.{List, []}
-use mathlib.Core.Bool.{false, not}
+use mathlib.Core.Bool.{false, not, So}
 use mathlib.Core.Path.{_≡_, refl, sym, ap, _∙_}
 use native.Mathlib.Omega.{arith}
-use lib.IntN.{ℤ, pos, _+ℤ_}
+use lib.IntN.{ℤ}
 use lib.ListN.{length, getD}
 use borrow.Author.Tests.{ltb-false, le-ltb, not-false}
 use Rattle.rules.specs.Rows.{Table}
-use Rattle.rules.specs.Steps.{position, steps}
-use Rattle.rules.specs.Moves.{opened, navigated, traversed, dropped, replaced, changes}
+use Rattle.rules.specs.Windows.{isRoot}
+use Rattle.rules.specs.Moves.{opened, tabbed, navigated, traversed, dropped, replaced, changes}
 use Rattle.rules.specs.Words.{tableOf, rowsOf, written}
 use Rattle.rules.specs.Sound.{Sound}
-use Rattle.rules.specs.Calls.{Call, Answer, outside, refusals, accepted, outcome, Given, NoneGiven}
+use Rattle.rules.specs.Calls.{Call, Answer, beyond, windowIn, refusals, accepted, outcome, Given, NoneGiven}
 use Rattle.rules.specs.Runs.{Move, on, after}
 use Rattle.laws.proofs.Reflect.{sound-is}
 use Rattle.laws.proofs.Calls.{by-ladder, accepted-gives, outcome-accepted, outcome-refused}
@@ -33,50 +33,55 @@ accepted-none c a =
 pub none-accepted : (c : Call) → NoneGiven (refusals c) → Accepted c
 none-accepted c h = by-answer (outcome c .answer) (λ k vs e. accepted-gives c k vs (ap (λ o. o .answer) (sym (outcome-accepted c h)) ∙ e))
 
--- What an accepted Traverse may rely on.
-pub record Goes (words : List ℕ) (δ : ℤ) (room : List ℕ) : Type 0 where
+-- What an accepted Traverse of window r may rely on.
+pub record Goes (words : List ℕ) (r : ℕ) (δ : ℤ) (room : List ℕ) : Type 0 where
   pub long : 7 ≤ length words
   pub sound : Sound words
-  pub inside : outside (steps (rowsOf words)) (pos (position (rowsOf words)) +ℤ δ) ≡ false
-  pub lent : length (changes (tableOf words) δ) ≤ length room
+  pub root : So (isRoot (rowsOf words) r)
+  pub inside : beyond (windowIn words r .rows) δ ≡ false
+  pub lent : length (changes (windowIn words r) δ) ≤ length room
 
-module _ (words : List ℕ) (δ : ℤ) (room : List ℕ) where
-  pub go-relies : NoneGiven (refusals (Call.Traverse words δ room)) → Goes words δ room
+module _ (words : List ℕ) (r : ℕ) (δ : ℤ) (room : List ℕ) where
+  pub go-relies : NoneGiven (refusals (Call.Traverse words r δ room)) → Goes words r δ room
   unfolding refusals NoneGiven
   go-relies h =
       record {
         long = ltb-false _ _ (h .0);
         sound = sound-is words .0 (not-false _ (h .1 .0));
-        inside = h .1 .1 .0;
-        lent = ltb-false _ _ (h .1 .1 .1 .0);
+        root = not-false _ (h .1 .1 .0);
+        inside = h .1 .1 .1 .0;
+        lent = ltb-false _ _ (h .1 .1 .1 .1 .0);
       }
 
-  pub go-accepted : Goes words δ room → NoneGiven (refusals (Call.Traverse words δ room))
+  pub go-accepted : Goes words r δ room → NoneGiven (refusals (Call.Traverse words r δ room))
   unfolding refusals NoneGiven
-  go-accepted g = (le-ltb _ _ (g .long), (ap not (sound-is words .1 (g .sound)), (g .inside, (le-ltb _ _ (g .lent), tt))))
+  go-accepted g = (le-ltb _ _ (g .long), (ap not (sound-is words .1 (g .sound)), (ap not (g .root), (g .inside, (le-ltb _ _ (g .lent), tt)))))
 
 -- The table that an accepted move leaves.
 abbrev pub made : Table → Move → Table
 made t (Move.opens p) = opened t p
 made t (Move.navigates d) = navigated t d
-made t (Move.goes δ room) = traversed t δ
+made t (Move.goes r δ room) = traversed t r δ
 made t (Move.drops f) = dropped t f
 made t (Move.replaces d) = replaced t d
+made t Move.tabs = tabbed t
 
 pub accepted-after : (words : List ℕ) (m : Move) → NoneGiven (refusals (on words m)) → after words m ≡ written words (made (tableOf words) m)
 unfolding accepted
 accepted-after words (Move.opens p) h = ap (λ o. getD (o .lent) 0 []) (outcome-accepted _ h)
 accepted-after words (Move.navigates d) h = ap (λ o. getD (o .lent) 0 []) (outcome-accepted _ h)
-accepted-after words (Move.goes δ room) h = ap (λ o. getD (o .lent) 0 []) (outcome-accepted _ h)
+accepted-after words (Move.goes r δ room) h = ap (λ o. getD (o .lent) 0 []) (outcome-accepted _ h)
 accepted-after words (Move.drops f) h = ap (λ o. getD (o .lent) 0 []) (outcome-accepted _ h)
 accepted-after words (Move.replaces d) h = ap (λ o. getD (o .lent) 0 []) (outcome-accepted _ h)
+accepted-after words Move.tabs h = ap (λ o. getD (o .lent) 0 []) (outcome-accepted _ h)
 
 pub refused-after : (words : List ℕ) (m : Move) (k : ℕ) (vs : List ℕ) → Given k vs (refusals (on words m)) → after words m ≡ words
 refused-after words (Move.opens p) k vs g = ap (λ o. getD (o .lent) 0 []) (outcome-refused _ k vs g)
 refused-after words (Move.navigates d) k vs g = ap (λ o. getD (o .lent) 0 []) (outcome-refused _ k vs g)
-refused-after words (Move.goes δ room) k vs g = ap (λ o. getD (o .lent) 0 []) (outcome-refused _ k vs g)
+refused-after words (Move.goes r δ room) k vs g = ap (λ o. getD (o .lent) 0 []) (outcome-refused _ k vs g)
 refused-after words (Move.drops f) k vs g = ap (λ o. getD (o .lent) 0 []) (outcome-refused _ k vs g)
 refused-after words (Move.replaces d) k vs g = ap (λ o. getD (o .lent) 0 []) (outcome-refused _ k vs g)
+refused-after words Move.tabs k vs g = ap (λ o. getD (o .lent) 0 []) (outcome-refused _ k vs g)
 
 -- By whether a move is accepted.
 pub by-move {ℓ} : {C : Type ℓ} (words : List ℕ) (m : Move) →

@@ -12,7 +12,8 @@ use borrow.Author.Tests.{eqb-true, eq-eqb, not-true}
 use Rattle.rules.specs.Below.{count}
 use Rattle.rules.specs.Rows.{Row, noRow, rowAt, docAt, frameAt, parentAt, isShown, inFrame}
 use Rattle.rules.specs.Steps.{isStep, reached, upcoming, position}
-use Rattle.rules.specs.Moves.{gone, without, cleared}
+use Rattle.rules.specs.Moves.{gone, without}
+use Rattle.laws.specs.Alone.{clearedAll}
 use Rattle.laws.proofs.Tests.{clash, off, count-in, count-mono, by-lt, gather-from}
 use Rattle.laws.proofs.Frames.{due-in, due-out}
 use Rattle.laws.proofs.Central.{reached-is}
@@ -152,7 +153,7 @@ module _ (rows : List Row) {a b : ℕ} (t : TreeOf rows a b) (q : ℕ → Bool) 
 
 module _ (rows : List Row) {a b : ℕ} (s : SoundRows rows a b) where
   -- Patch 4, its first half.
-  pub cleared-model : Same (deleting (ofRows rows) (JointFuture (ofRows rows))) (ofRows (cleared rows))
+  pub cleared-model : Same (deleting (ofRows rows) (JointFuture (ofRows rows))) (ofRows (clearedAll rows))
   cleared-model = deleted-model rows (s .tree) (upcoming rows) (JointFuture (ofRows rows)) (future rows s) (upcoming-of rows s)
 
   -- A frame is taken out.

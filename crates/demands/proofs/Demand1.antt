@@ -10,18 +10,19 @@ use lib.Ieee.{Float, nan, inf, fin}
 use lib.IntN.{ℤ, pos, negsuc, _+ℤ_}
 use lib.ListN.{length, replicate, length-replicate}
 use borrow.Author.Tests.{not-true, not-false, lt-ltb, eq-eqb, ne-eqb, eqb-true, eqb-false, leb-true, leb-false}
-use Rattle.rules.specs.Rows.{none, parentAt, inRecord, isFrame, Table}
+use Rattle.rules.specs.Rows.{none, frameAt, parentAt, inRecord, isFrame, Table}
 use Rattle.rules.specs.Steps.{position, steps, visible}
+use Rattle.rules.specs.Windows.{isRoot}
 use Rattle.rules.specs.Words.{capacity, tableOf, rowsOf, written}
 use Rattle.rules.specs.Asks.{stretched}
 use Rattle.rules.specs.Sound.{SoundTable, Sound}
 use Rattle.rules.specs.Saved.{parentOf, saved, loaded, fromSave?}
-use Rattle.rules.specs.OldSaved.{oldSaved, oldLoaded, S2rising, fromOldSave?}
+use Rattle.rules.specs.OldSaved.{oldSaved, oldLoaded, S2rising, S5alone, fromOldSave?}
 use Rattle.rules.specs.Below.{someBelow}
 use Rattle.rules.specs.Places.{Place, finite, finitePlace, scaled, entries, documentIn, kindIn, placeIn, isOf, sane, fineAt, fine?, placeOf, freed}
-use Rattle.rules.specs.Calls.{Call, Answer, Rung, _when_, _naming_, short, unsound, absent, hidden, hider, outside, noFrame, rootFrame, badPlaces, notFinite, overZoomed, noEntry, refusals, outcome, Given}
+use Rattle.rules.specs.Calls.{Call, Answer, Rung, _when_, _naming_, short, unsound, absent, hidden, hider, outside, noFrame, rootFrame, noRoot, windowIn, badPlaces, notFinite, overZoomed, noEntry, refusals, outcome, Given}
 use Rattle.laws.proofs.Tests.{test, clash, off, or-left, or-cases, and-both, some-out, all-fails-at}
-use Rattle.laws.proofs.Reflect.{Ref, ref-lt, ref-le, ref-eq, ref-or, ref-map, record-is, frame-is, sound-is, ref-not}
+use Rattle.laws.proofs.Reflect.{Ref, ref-lt, ref-le, ref-eq, ref-and, ref-or, ref-any, ref-map, record-is, frame-is, sound-is, ref-not}
 use Rattle.laws.proofs.Tree.{parent-of}
 use Rattle.laws.proofs.Words.{table-written, written-sound}
 use Rattle.laws.proofs.Loads.{in-room, from-save-is, from-save-in}
@@ -29,7 +30,7 @@ use Rattle.laws.proofs.OldLoads.{from-old-save-is, from-old-save-in}
 use Rattle.laws.proofs.Stores.{fine-out, freed-entries, freed-document, spot-past, past-spot}
 use Rattle.laws.proofs.Calls.{refused-when, refused-keeps}
 use Rattle.demands.proofs.Nearest.{hider-is, is-hider}
-use Rattle.demands.specs.Refuses.{Short, Unsound, SavedBySome, SavedThen, StandsAt, Absent, Hidden, Outside, RowOf, NoFrame, RootFrame, ParentHidden, Nearest, ParentNearest, Endless, NotFinite, BadPlaces, NoEntry, Line, _if_, _carrying_, lines, numbers, among, First, HoldsIn, Applies, Demand1, paper, SmallestFirst}
+use Rattle.demands.specs.Refuses.{Short, Unsound, SavedBySome, SavedThen, StandsAt, Absent, Hidden, Outside, RowOf, NoFrame, RootFrame, NoRoot, ParentHidden, Nearest, ParentNearest, Endless, NotFinite, BadPlaces, NoEntry, Line, _if_, _carrying_, lines, numbers, among, First, HoldsIn, Applies, Demand1, paper, SmallestFirst}
 
 -- A rung and a line say the same: the number, when, and what it carries then.
 record Agree (r : Rung) (l : Line) : Type 0 where
@@ -149,6 +150,17 @@ module _ (words : List ℕ) (f : ℕ) where
   no-frame-is : Ref (noFrame words f) (NoFrame words f)
   no-frame-is = ref-map (λ g i h. g (i, h)) (λ g h. g (h .0) (h .1)) (ref-not framed)
 
+  -- A row of it is without a parent.
+  rooted : Ref (isRoot (rowsOf words) f) (RootFrame words f)
+  unfolding isRoot
+  rooted =
+      let rows = rowsOf words in
+      ref-map (λ h. (h .0, (h .1, h .2 .0), h .2 .1)) (λ h. (h .0, h .1 .0, (h .1 .1, h .2)))
+      (ref-any (λ i. ref-and (ref-eq (frameAt rows i) f) (ref-eq (parentAt rows i) none)) (length rows))
+
+  no-root-is : Ref (noRoot words f) (NoRoot words f)
+  no-root-is = ref-map (λ g i h e. g (i, h, e)) (λ g h. g (h .0) (h .1) (h .2)) (ref-not rooted)
+
   module _ (sound : unsound words ≡ false) (found : noFrame words f ≡ false) where
     its-parent : (i : ℕ) → RowOf words f i → parentOf (rowsOf words) f ≡ parentAt (rowsOf words) i
     its-parent i h = parent-of (rowsOf words) (sound-is words .0 (not-false _ sound) .table .s5 .kin) i f (h .0) (h .1)
@@ -213,9 +225,14 @@ saved-then-is : (bytes : List ℕ) → Ref (fromOldSave? bytes) (SavedThen bytes
 saved-then-is bytes = (
   λ h.
       let s = from-old-save-is bytes .0 h in
-      let r = record-of (oldLoaded bytes) (s .0 .sound) in
-      (r .0, r .1, subst (λ (t : Table). S2rising (t .rows) (t .nextDoc)) (sym (r .2)) (s .0 .order), ap oldSaved (r .2) ∙ s .1),
-  λ w. subst (λ b. So (fromOldSave? b)) (w .3) (from-old-save-in _ (record { sound = table-of (w .0) (w .1); order = w .2 })),
+      let r = record-of (oldLoaded bytes) (s .0 .sound) in (
+        r .0,
+        r .1,
+        subst (λ (t : Table). S2rising (t .rows) (t .nextDoc)) (sym (r .2)) (s .0 .order),
+        subst (λ (t : Table). S5alone (t .rows)) (sym (r .2)) (s .0 .alone),
+        ap oldSaved (r .2) ∙ s .1,
+      ),
+  λ w. subst (λ b. So (fromOldSave? b)) (w .4) (from-old-save-in _ (record { sound = table-of (w .0) (w .1); order = w .2; alone = w .3 })),
 )
 
 -- SCROLL PLACES
@@ -293,15 +310,16 @@ unfolding bare? listed? refusals
 listed (Call.Fresh words) = refl
 listed (Call.Open words parent) = refl
 listed (Call.Navigate words from) = refl
-listed (Call.Traverse words δ room) = refl
+listed (Call.Traverse words root δ room) = refl
 listed (Call.Drop words frame) = refl
 listed (Call.Replace words d) = refl
-listed (Call.Position words) = refl
+listed (Call.Tab words) = refl
+listed (Call.Position words root) = refl
 listed (Call.Visible words d) = refl
-listed (Call.Lists words takens upcomings) = refl
+listed (Call.Lists words root takens upcomings) = refl
 listed (Call.Stretch takens upcomings δ) = refl
 listed (Call.StretchCount takens upcomings δ) = refl
-listed (Call.Outline words room) = refl
+listed (Call.Outline words root room) = refl
 listed (Call.Save words room) = refl
 listed (Call.Load words bytes) = refl
 listed (Call.LoadOld words bytes) = refl
@@ -314,6 +332,12 @@ on-record : {rest : Type 0} (words : List ℕ) → (unsound words ≡ false → 
     Agree (1 when short words) (1 if Short words) × (short words ≡ false → Agree (2 when unsound words) (2 if Unsound words) × (unsound words ≡ false → rest))
 on-record words rest = (alone (short-is words), λ f. (alone (unsound-is words), rest))
 
+-- Refusals 1, 2 and 13, and then the rest of a window.
+on-window : {rest : Type 0} (words : List ℕ) (root : ℕ) → (noRoot words root ≡ false → rest) →
+    Agree (1 when short words) (1 if Short words)
+    × (short words ≡ false → Agree (2 when unsound words) (2 if Unsound words) × (unsound words ≡ false → Agree (13 when noRoot words root) (13 if NoRoot words root) × (noRoot words root ≡ false → rest)))
+on-window words root rest = on-record words (λ s. (alone (no-root-is words root), rest))
+
 -- Each line is its rung.
 match : (c : Call) → Match (refusals c) (lines c)
 unfolding Match refusals lines
@@ -322,18 +346,20 @@ match (Call.Open words parent) =
     on-record words (λ s. (alone (absent-is words parent), λ f. (hidden-five words parent s f, λ f. (alone (ref-le _ _), λ f. (alone (ref-or (ref-eq _ _) (ref-eq _ _)), λ f. tt)))))
 match (Call.Navigate words from) =
     on-record words (λ s. (alone (absent-is words from), λ f. (hidden-five words from s f, λ f. (alone (ref-le _ _), λ f. (alone (ref-eq _ _), λ f. tt)))))
-match (Call.Traverse words δ room) =
-    on-record words (λ s. (alone (outside-is (steps (rowsOf words)) (pos (position (rowsOf words)) +ℤ δ)), λ f. (alone (ref-lt _ _), λ f. tt)))
+match (Call.Traverse words root δ room) =
+    let own = windowIn words root .rows in
+    on-window words root (λ s. (alone (outside-is (steps own) (pos (position own) +ℤ δ)), λ f. (alone (ref-lt _ _), λ f. tt)))
 match (Call.Drop words frame) =
     on-record words (λ s. (alone (no-frame-is words frame), λ f. (alone (root-frame-is words frame s f), λ r. (parent-five words frame s f r, λ f. tt))))
 match (Call.Replace words d) =
     on-record words (λ s. (alone (absent-is words d), λ f. (hidden-five words d s f, λ f. (alone (ref-eq _ _), λ f. tt))))
-match (Call.Position words) = on-record words (λ s. tt)
+match (Call.Tab words) = on-record words (λ s. (alone (ref-le _ _), λ f. (alone (ref-or (ref-eq _ _) (ref-eq _ _)), λ f. tt)))
+match (Call.Position words root) = on-window words root (λ s. tt)
 match (Call.Visible words d) = on-record words (λ s. (alone (absent-is words d), λ f. tt))
-match (Call.Lists words takens upcomings) = on-record words (λ s. (alone (ref-or (ref-lt _ _) (ref-lt _ _)), λ f. tt))
+match (Call.Lists words root takens upcomings) = on-window words root (λ s. (alone (ref-or (ref-lt _ _) (ref-lt _ _)), λ f. tt))
 match (Call.Stretch takens upcomings δ) = tt
 match (Call.StretchCount takens upcomings δ) = (alone (ref-lt _ _), λ f. tt)
-match (Call.Outline words room) = on-record words (λ s. (alone (ref-lt _ _), λ f. tt))
+match (Call.Outline words root room) = on-window words root (λ s. (alone (ref-lt _ _), λ f. tt))
 match (Call.Save words room) = on-record words (λ s. (alone (ref-lt _ _), λ f. tt))
 match (Call.Load words bytes) = (alone (short-is words), λ f. (alone (ref-not (saved-is bytes)), λ f. (alone (ref-lt _ _), λ f. tt)))
 match (Call.LoadOld words bytes) = (alone (short-is words), λ f. (alone (ref-not (saved-then-is bytes)), λ f. (alone (ref-lt _ _), λ f. tt)))
@@ -410,15 +436,16 @@ unfolding Rising lines
 rise (Call.Fresh words) first = (omega arith, tt)
 rise (Call.Open words parent) first = (omega arith, (omega arith, (omega arith, (omega arith, (omega arith, (omega arith, tt))))))
 rise (Call.Navigate words from) first = (omega arith, (omega arith, (omega arith, (omega arith, (omega arith, (omega arith, tt))))))
-rise (Call.Traverse words δ room) first = (omega arith, (omega arith, (omega arith, (omega arith, tt))))
+rise (Call.Traverse words root δ room) first = absurd (omega arith)
 rise (Call.Drop words frame) first = absurd (omega arith)
 rise (Call.Replace words d) first = absurd (omega arith)
-rise (Call.Position words) first = (omega arith, (omega arith, tt))
+rise (Call.Tab words) first = absurd (omega arith)
+rise (Call.Position words root) first = absurd (omega arith)
 rise (Call.Visible words d) first = (omega arith, (omega arith, (omega arith, tt)))
-rise (Call.Lists words takens upcomings) first = (omega arith, (omega arith, (omega arith, tt)))
+rise (Call.Lists words root takens upcomings) first = absurd (omega arith)
 rise (Call.Stretch takens upcomings δ) first = tt
 rise (Call.StretchCount takens upcomings δ) first = (omega arith, tt)
-rise (Call.Outline words room) first = (omega arith, (omega arith, (omega arith, tt)))
+rise (Call.Outline words root room) first = absurd (omega arith)
 rise (Call.Save words room) first = (omega arith, (omega arith, (omega arith, tt)))
 rise (Call.Load words bytes) first = (omega arith, (omega arith, (omega arith, tt)))
 rise (Call.LoadOld words bytes) first = (omega arith, (omega arith, (omega arith, tt)))

@@ -1,59 +1,75 @@
--- No move changes who is visible at position p, of the documents below n that are in the record still, but a navigation from before p, a drop with which one of
--- the first p steps goes, and the replacement of such a document. Assumes nothing.
+-- No move changes who of window r is visible at its position p, of the documents below n that are in the record still, but a navigation in it from before p, a drop with which one of
+-- its first p steps goes, and the replacement of such a document. Assumes nothing.
 use Prim.Native.Nat.{ℕ, zero, suc, _≤_, _<_}
 use mathlib.Core.Path.{_≡_, refl, sym, ap, _∙_, subst}
 use mathlib.Core.List.{List, [], _∷_, _++_}
 use mathlib.Core.Logic.{_≢_, inl, inr}
-use mathlib.Core.Bool.{Bool, So, false}
+use mathlib.Core.Bool.{Bool, So, false, not}
 use native.Mathlib.Nat.{not-suc-le-zero}
 use native.Mathlib.Omega.{arith}
+use lib.Dec.{eqb}
 use lib.IntN.{ℤ, pos, _+ℤ_}
 use lib.ListN.{length}
-use borrow.Author.Tests.{eqb-true}
+use borrow.Author.Tests.{eqb-true, eqb-false, eq-eqb}
 use Rattle.rules.specs.Below.{count}
-use Rattle.rules.specs.Rows.{Table, none, docAt, inRecord, inFrame}
+use Rattle.rules.specs.Rows.{Table, none, docAt, inRecord, inFrame, isFrame}
 use Rattle.rules.specs.Steps.{isStep, upcoming, position, steps, visible}
-use Rattle.rules.specs.Moves.{opened, gone, without, cleared, navigated, traversed, dropped, isChild, replaced}
-use Rattle.rules.specs.Words.{tableOf, rowsOf}
+use Rattle.rules.specs.Windows.{inWindow, windowRows, windowOf}
+use Rattle.rules.specs.Moves.{opened, tabbed, gone, without, walked, traversed, dropped, isChild, replaced, navigated}
+use Rattle.rules.specs.Words.{tableOf}
 use Rattle.rules.specs.Sound.{Sound}
 use Rattle.rules.specs.Calls.{outside, refusals, NoneGiven}
 use Rattle.rules.specs.Runs.{Move, on, after}
+use Rattle.laws.specs.Alone.{clearedAll, navigatedAll}
 use Rattle.laws.proofs.Tests.{test, count-in}
 use Rattle.laws.proofs.Kept.{kept, kept-row, kept-length}
-use Rattle.laws.proofs.Tree.{proper}
+use Rattle.laws.proofs.Tree.{TreeOf, proper}
 use Rattle.laws.proofs.Reflect.{record-is}
-use Rattle.laws.proofs.Climb.{gone-cases}
+use Rattle.laws.proofs.Climb.{gone-cases, seen-there}
 use Rattle.laws.proofs.Removal.{SoundRows, stays, stays-in, stays-up, stays-whole}
 use Rattle.laws.proofs.Travel.{walked-at}
 use Rattle.laws.proofs.Navigate.{arrival, navigated-at}
 use Rattle.laws.proofs.Drop.{staysBut, frame-together, dropped-out}
 use Rattle.laws.proofs.Replace.{children-together, children-removed, bare}
-use Rattle.laws.proofs.Accepted.{navigate-relies, replace-relies}
+use Rattle.laws.proofs.Accepted.{open-relies, navigate-relies, drop-relies, replace-relies}
+use Rattle.windows.proofs.Window.{WideRows, window-up, window-frame, window-came, window-sound}
+use Rattle.windows.proofs.Without.{gone-along}
+use Rattle.windows.proofs.Added.{root-new-top, snoc-in}
+use Rattle.windows.proofs.Opened.{opened-here}
+use Rattle.windows.proofs.Navigated.{navigated-here}
+use Rattle.windows.proofs.Flagged.{traversed-here}
+use Rattle.windows.proofs.Dropped.{dropped-here}
+use Rattle.windows.proofs.Replaced.{replaced-here}
+use Rattle.windows.proofs.Members.{member-record, sees-here, frame-here}
 use Rattle.demands.specs.Record.{Words32}
+use Rattle.demands.specs.Windows.{rowsIn, InWindow, windowOn}
 use Rattle.demands.specs.Note.{Removes}
 use Rattle.demands.proofs.Accepted.{go-relies, made, by-move}
-use Rattle.demands.proofs.Lasting.{lasting, lasting-rows, table-after}
+use Rattle.demands.proofs.Lasting.{wide-of, table-after}
+use Rattle.demands.proofs.Windows.{leaves-others}
 use Rattle.demands.proofs.Seen.{steps-stay, cleared-whole, cleared-there}
 use Rattle.demands.proofs.Steady.{Early, Closed, Steady, steady-stay, steady-then, seen-in, steady-at, steady-append, steady-kept}
 use Rattle.demands.proofs.Renamed.{steady-renamed}
+
+-- THE MOVES OF A RECORD OF ONE WINDOW
 
 module _ (Out : Type 0) (p n : ℕ) (t : Table) (s : SoundRows (t .rows) (t .nextDoc) (t .nextFrame)) (few : p ≤ steps (t .rows)) (closed : Closed n (t .rows)) where
   steady-open : n ≤ t .nextDoc → (d : ℕ) → Steady Out p n (t .rows) (opened t d .rows)
   unfolding opened
   steady-open next d = steady-append Out p n (t .rows) few closed _ next
 
-  steady-navigate : n ≤ t .nextDoc → t .nextDoc ≢ none → (d : ℕ) → So (visible (t .rows) d) → p ≤ position (t .rows) → Steady Out p n (t .rows) (navigated t d .rows)
+  steady-navigate : n ≤ t .nextDoc → t .nextDoc ≢ none → (d : ℕ) → So (visible (t .rows) d) → p ≤ position (t .rows) → Steady Out p n (t .rows) (navigatedAll t d .rows)
   unfolding without
   steady-navigate next unused d sees fair =
       let x = arrival t s unused d sees in
-      let c = cleared (t .rows) in
+      let c = clearedAll (t .rows) in
       let a : Steady Out p n (t .rows) c =
       steady-kept Out p n (t .rows) few closed (stays (upcoming (t .rows)) (t .rows)) (s .tree) (stays-up (upcoming (t .rows)) (t .rows) (s .tree))
       (cleared-whole (t .rows) s p fair) (steps-stay (t .rows) s p fair) (λ e l v. inl (cleared-there (t .rows) s p fair e v)) in
       let b = steady-append Out p n c (a .enough) (a .closed) x next in
       subst (Steady Out p n (t .rows)) (sym (navigated-at t s unused d sees)) (steady-then a (steady-then b (steady-at Out p n (c ++ x ∷ []) (b .enough) (b .closed) _)))
 
-  steady-go : (δ : ℤ) → outside (steps (t .rows)) (pos (position (t .rows)) +ℤ δ) ≡ false → Steady Out p n (t .rows) (traversed t δ .rows)
+  steady-go : (δ : ℤ) → outside (steps (t .rows)) (pos (position (t .rows)) +ℤ δ) ≡ false → Steady Out p n (t .rows) (walked δ (t .rows))
   steady-go δ inside =
       let r = walked-at (t .rows) (s .s6) (s .s7) δ inside in
       subst (Steady Out p n (t .rows)) (sym (r .rows-are)) (steady-at Out p n (t .rows) few closed (r .to))
@@ -90,7 +106,7 @@ module _ (Out : Type 0) (p n : ℕ) (t : Table) (s : SoundRows (t .rows) (t .nex
     steady-bare =
         let keep = stays under (t .rows) in
         steady-kept Out p n (t .rows) few closed keep (s .tree) (stays-up under (t .rows) (s .tree))
-        (stays-whole under (t .rows) (s .tree) p (children-together t d s p))
+        (stays-whole under (t .rows) (s .tree) p (children-together (t .rows) (s .tree) d p))
         (λ k l m c. older-stays k l (old (docAt (t .rows) k) (k, l, refl, m, c)))
         (λ e x v.
         let o = record-is (t .rows) e .0 (seen-in Out p n (t .rows) few closed e v) in
@@ -109,40 +125,89 @@ module _ (Out : Type 0) (p n : ℕ) (t : Table) (s : SoundRows (t .rows) (t .nex
         let left : t .nextDoc < none = omega arith in
         steady-then a (steady-renamed Out p n (without under (t .rows)) (a .enough) (a .closed) d (t .nextDoc) (children-removed t d s .sound .tree) left (bare t d (s .tree)) late next (λ e h. old e (a .noted e h)))
 
--- What is asked of a move, for it to be steady.
-pub record Fair (Out : Type 0) (p n : ℕ) (words : List ℕ) (m : Move) : Type 0 where
-  pub above : (d : ℕ) → m ≡ Move.navigates d → NoneGiven (refusals (on words m)) → p ≤ position (rowsOf words)
-  pub spared : (f d : ℕ) → m ≡ Move.drops f → Removes words m d → Early p (rowsOf words) d → ⊥
-  pub out : (f : ℕ) → m ≡ Move.drops f → NoneGiven (refusals (on words m)) → Out
-  pub unknown : (d : ℕ) → m ≡ Move.replaces d → NoneGiven (refusals (on words m)) → n ≤ d
+-- THE MOVES OF A TABLE
 
-module _ (Out : Type 0) (p n : ℕ) (words : List ℕ) (wide : Words32 words) (s : Sound words) (few : p ≤ steps (rowsOf words)) (closed : Closed n (rowsOf words)) (next : n ≤ tableOf words .nextDoc)
-    (old : (d : ℕ) → Early p (rowsOf words) d → d < n) where
+-- The document of a window's row that goes with a frame is in the record no more.
+goes-out : (t : Table) {a b : ℕ} → TreeOf (t .rows) a b → (r f i : ℕ) → i < length (windowRows r (t .rows)) → staysBut f (windowRows r (t .rows)) i ≡ false →
+    inRecord (dropped t f .rows) (docAt (windowRows r (t .rows)) i) ≡ false
+unfolding windowRows
+goes-out t tree r f i l goes =
+    let rows = t .rows in
+    let own = windowRows r rows in
+    let k = window-came rows tree r i l in
+    let e = gone-along rows tree (inWindow r rows) (inFrame rows f) (inFrame own f) (window-up rows tree r) (window-frame rows r f) (k .0) (k .1) (k .2) in
+    ap (inRecord (dropped t f .rows)) (k .4 .d)
+    ∙ dropped-out t f tree (k .0) (k .1) (ap not (sym e) ∙ ap (staysBut f own) (k .3) ∙ goes)
+
+-- What is asked of a move, for it to be steady: of one on window r.
+pub record Fair (Out : Type 0) (p n r : ℕ) (words : List ℕ) (m : Move) : Type 0 where
+  pub above : (d : ℕ) → m ≡ Move.navigates d → NoneGiven (refusals (on words m)) → InWindow words r d → p ≤ position (rowsIn r words)
+  pub spared : (f d : ℕ) → m ≡ Move.drops f → Removes words m d → Early p (rowsIn r words) d → ⊥
+  pub out : (f : ℕ) → m ≡ Move.drops f → NoneGiven (refusals (on words m)) → So (isFrame (rowsIn r words) f) → Out
+  pub unknown : (d : ℕ) → m ≡ Move.replaces d → NoneGiven (refusals (on words m)) → InWindow words r d → n ≤ d
+
+module _ (Out : Type 0) (p n r : ℕ) (words : List ℕ) (wide : Words32 words) (s : Sound words)
+    (few : p ≤ steps (rowsIn r words)) (closed : Closed n (rowsIn r words)) (next : n ≤ tableOf words .nextDoc) (old : (d : ℕ) → Early p (rowsIn r words) d → d < n) where
   abbrev t : Table
   t = tableOf words
 
-  rows : SoundRows (t .rows) (t .nextDoc) (t .nextFrame)
-  rows = lasting-rows (lasting words wide s)
+  abbrev own : Table
+  own = windowOf t r
 
-  steady-made : (m : Move) → Fair Out p n words m → NoneGiven (refusals (on words m)) → tableOf (after words m) ≡ made t m → Steady Out p n (t .rows) (made t m .rows)
-  steady-made (Move.opens d) fair h e = steady-open Out p n t rows few closed next d
-  steady-made (Move.navigates d) fair h e =
+  rows : WideRows (t .rows) (t .nextDoc) (t .nextFrame)
+  rows = wide-of words wide s
+
+  alone : SoundRows (own .rows) (t .nextDoc) (t .nextFrame)
+  alone = window-sound (t .rows) rows r
+
+  -- A window opened has the new row alone.
+  steady-tab : t .nextFrame ≡ r → Steady Out p n (own .rows) (windowRows r (tabbed t .rows))
+  unfolding tabbed opened
+  steady-tab q =
+      subst (Steady Out p n (own .rows)) (sym (snoc-in (t .rows) _ (rows .tree) r (eq-eqb _ _ (root-new-top (t .rows) _ (rows .tree) refl ∙ q))))
+      (steady-append Out p n (own .rows) few closed _ next)
+
+  -- An accepted move on the window does to its rows what it does to a record of one window.
+  steady-here : (m : Move) → windowOn words m ≡ r → Fair Out p n r words m → NoneGiven (refusals (on words m)) → tableOf (after words m) ≡ made t m →
+      Steady Out p n (own .rows) (windowRows r (made t m .rows))
+  steady-here (Move.opens d) q fair h e =
+      let o = open-relies words d h in
+      let here = subst (λ w. windowRows w (opened t d .rows) ≡ opened (windowOf t w) d .rows) q (opened-here t rows (o .doc) d (o .seen)) in
+      subst (Steady Out p n (own .rows)) (sym here) (steady-open Out p n own alone few closed next d)
+  steady-here (Move.navigates d) q fair h e =
       let o = navigate-relies words d h in
-      steady-navigate Out p n t rows few closed next (o .doc) d (o .seen) (fair .above d refl h)
-  steady-made (Move.goes δ room) fair h e = steady-go Out p n t rows few closed δ (go-relies words δ room h .inside)
-  steady-made (Move.drops f) fair h e =
-      steady-drop Out p n t rows few closed (fair .out f refl h) f (λ k l m c.
-      test (staysBut f (t .rows) k) (λ y. y) (λ g.
-      absurd (fair .spared f (docAt (t .rows) k) refl (
-        record-is (t .rows) (docAt (t .rows) k) .1 (k, l, refl),
-        ap (λ (u : Table). inRecord (u .rows) (docAt (t .rows) k)) e ∙ dropped-out t f rows k l g,
-      ) (k, l, refl, m, c))))
-  steady-made (Move.replaces d) fair h e =
+      let here = subst (λ w. windowRows w (navigated t d .rows) ≡ navigatedAll (windowOf t w) d .rows) q (navigated-here t rows (o .doc) d (o .seen)) in
+      let v = sees-here (t .rows) (rows .tree) r d (o .seen) q in
+      subst (Steady Out p n (own .rows)) (sym here) (steady-navigate Out p n own alone few closed next (o .doc) d v (fair .above d refl h (seen-there (own .rows) d v)))
+  steady-here (Move.goes root δ room) q fair h e =
+      let g = go-relies words root δ room h .inside in
+      let here = subst (λ w. windowRows w (traversed t root δ .rows) ≡ walked δ (windowRows w (t .rows))) q (traversed-here t rows root δ g) in
+      let inside = subst (λ w. outside (steps (rowsIn w words)) (pos (position (rowsIn w words)) +ℤ δ) ≡ false) q g in
+      subst (Steady Out p n (own .rows)) (sym here) (steady-go Out p n own alone few closed δ inside)
+  steady-here (Move.drops f) q fair h e =
+      let o = drop-relies words f h in
+      subst (Steady Out p n (own .rows)) (sym (dropped-here t rows f r))
+      (steady-drop Out p n own alone few closed (fair .out f refl h (frame-here (t .rows) (rows .tree) r f (o .there) q)) f (λ k l m c.
+      test (staysBut f (own .rows) k) (λ y. y) (λ g.
+      let d = docAt (own .rows) k in
+      absurd (fair .spared f d refl (
+        member-record (t .rows) (rows .tree) r d (record-is (own .rows) d .1 (k, l, refl)),
+        ap (λ (u : Table). inRecord (u .rows) d) e ∙ goes-out t (rows .tree) r f k l g,
+      ) (k, l, refl, m, c)))))
+  steady-here (Move.replaces d) q fair h e =
       let o = replace-relies words d h in
-      steady-replace Out p n t rows few closed d (o .there) (fair .unknown d refl h) old next (o .doc)
+      let there = seen-there (own .rows) d (sees-here (t .rows) (rows .tree) r d (o .seen) q) in
+      subst (Steady Out p n (own .rows)) (sym (replaced-here t rows (o .doc) d r))
+      (steady-replace Out p n own alone few closed d there (fair .unknown d refl h there) old next (o .doc))
+  steady-here Move.tabs q fair h e = steady-tab q
 
-  pub steady-after : (m : Move) → Fair Out p n words m → Steady Out p n (rowsOf words) (rowsOf (after words m))
+  -- Any move, refused or not, on this window or another.
+  pub steady-after : (m : Move) → Fair Out p n r words m → Steady Out p n (rowsIn r words) (rowsIn r (after words m))
   steady-after m fair =
+      let stay = steady-stay Out p n (rowsIn r words) few closed in
+      test (eqb (windowOn words m) r)
+      (λ y.
       by-move words m
-      (λ h e. let a = table-after words wide s m h e in subst (λ (u : Table). Steady Out p n (rowsOf words) (u .rows)) (sym a) (steady-made m fair h a))
-      (λ e. subst (λ w. Steady Out p n (rowsOf words) (rowsOf w)) (sym e) (steady-stay Out p n (rowsOf words) few closed))
+      (λ h e. let a = table-after words wide s m h e in subst (λ (u : Table). Steady Out p n (own .rows) (windowRows r (u .rows))) (sym a) (steady-here m (eqb-true _ _ y) fair h a))
+      (λ e. subst (λ w. Steady Out p n (rowsIn r words) (rowsIn r w)) (sym e) stay))
+      (λ y. subst (Steady Out p n (rowsIn r words)) (sym (leaves-others words m wide s r (λ e. eqb-false _ _ y (sym e)))) stay)

@@ -1,21 +1,34 @@
 -- L4, which document hides it. Assumes nothing.
 use Prim.Native.Nat.{ℕ}
-use mathlib.Core.List.{List}
+use mathlib.Core.Bool.{not, So}
+use mathlib.Core.List.{List, [], _∷_}
 use mathlib.Core.Logic.{_⊎_, inl, inr, ⊎-elim}
 use mathlib.Core.Path.{_≡_, refl, ap, _∙_}
 use native.Mathlib.Omega.{arith}
-use Rattle.rules.specs.Steps.{visible}
+use lib.ListN.{length}
+use borrow.Author.Tests.{le-ltb}
+use Rattle.rules.specs.Rows.{inRecord, flag}
+use Rattle.rules.specs.Steps.{climbOf, visible}
 use Rattle.rules.specs.Words.{rowsOf}
 use Rattle.rules.specs.Sound.{Sound}
-use Rattle.rules.specs.Calls.{Call, Answer, hider}
+use Rattle.rules.specs.Calls.{Call, Answer, hider, refusals, accepted, outcome, NoneGiven}
 use Rattle.laws.proofs.Tests.{test}
+use Rattle.laws.proofs.Reflect.{sound-is}
 use Rattle.laws.proofs.Tree.{once-of}
 use Rattle.laws.proofs.Climb.{nobody-is}
+use Rattle.laws.proofs.Calls.{outcome-accepted}
 use Rattle.demands.specs.Refuses.{lines, First}
 use Rattle.demands.specs.Hides.{HidesRightly, FiveCarries}
 use Rattle.demands.proofs.Nearest.{nobody-not, hider-nearest, nearest-hider, nearest-one, hider-is}
 use Rattle.demands.proofs.Demand1.{demand1, number-alone}
-use Rattle.demands.proofs.Demand3.{noted}
+use Rattle.demands.proofs.Lasting.{long}
+
+-- "Visible answers yes or no for a document", with what hides it and how far up the climb went.
+pub visible-asked : (words : List ℕ) → Sound words → (d : ℕ) → So (inRecord (rowsOf words) d) →
+    outcome (Call.Visible words d) .answer ≡ Answer.gives (flag (visible (rowsOf words) d) ∷ hider words d ∷ climbOf (rowsOf words) d .links ∷ [])
+unfolding refusals NoneGiven accepted
+visible-asked words s d there =
+    ap (λ o. o .answer) (outcome-accepted (Call.Visible words d) (le-ltb (length words) 7 (long words s), (ap not (sound-is words .1 s), (ap not there, tt))))
 
 -- "The visible question should answer either that the document is visible or the number of the nearest document, itself first and then upwards, that isn't shown."
 pub hides-rightly : (words : List ℕ) → Sound words → HidesRightly words
@@ -25,7 +38,7 @@ hides-rightly words s =
     let s4 = s .table .s4 in
     record {
       asked = λ d there.
-          let answers = noted words s .visible-asked d there in
+          let answers = visible-asked words s d there in
           test (visible rows d)
           (λ v. inl (answers ∙ ap Answer.gives (rw (v, nobody-is rows d .1 v) refl), v))
           (λ f. inr (hider words d, answers ∙ rw f refl, hider-is words s d there f));

@@ -1,5 +1,5 @@
 -- What the customer buys, as theorems over the definitions of `rules`. The ends of the lines of thought: `p1-to-p12`, `drop-examples`, `replace-examples`, `place-examples`,
--- `standing`, `past-spared`, `demand1` and `smallest-first`, `undo-each-other`, `takes-old` and `demand2`, `noted`, `demand3`, `without-drops` and `without-replacements`, `hides-rightly` and
+-- `standing`, `past-spared`, `windows`, `demand1` and `smallest-first`, `undo-each-other`, `takes-old` and `demand2`, `noted`, `demand3`, `without-drops`, `without-replacements` and `without-tabs`, `hides-rightly` and
 -- `refusal-five-carries`, `links-rightly`, `traverse-traverse`, `scrolls`, and of the readings that look right `back-does-not-restore`, `back-restores-visible`,
 -- `own-future-not-enough`, `visible-futures-not-enough`, `back-is-not-to-latest-past`, `back-is-not-from-latest-of-all`, `back-is-not-to-first`,
 -- `back-is-backward`, `taken-may-not-go`, `noted-may-not-be-replaced`, `gone-not-as-noted`.
@@ -7,7 +7,9 @@ pub mod Examples
 pub mod Nearest
 pub mod Demand1
 pub mod Accepted
+pub mod From
 pub mod Lasting
+pub mod Windows
 pub mod Wide
 pub mod Loading
 pub mod Standing
@@ -17,8 +19,11 @@ pub mod Seen
 pub mod Steady
 pub mod Renamed
 pub mod Fair
-pub mod Demand3
+pub mod Numbers
+pub mod Still
 pub mod Hides
+pub mod Demand3
+pub mod Only
 pub mod Links
 pub mod Fundamental
 pub mod Histories

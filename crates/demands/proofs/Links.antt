@@ -10,18 +10,22 @@ use lib.ListN.{length, getD}
 use borrow.Author.Tests.{eq-eqb, ne-eqb}
 use Rattle.rules.specs.Rows.{Row, docAt, inRecord, flag}
 use Rattle.rules.specs.Steps.{climbAt, climbOf, visible}
-use Rattle.rules.specs.Words.{capacity, tableOf, rowsOf}
-use Rattle.rules.specs.Sound.{S4, Sound}
+use Rattle.rules.specs.Windows.{windowRows, isRoot}
+use Rattle.rules.specs.Words.{tableOf, rowsOf}
+use Rattle.rules.specs.Sound.{S4, SoundTable, Sound}
 use Rattle.rules.specs.Asks.{outlineOf}
-use Rattle.rules.specs.Calls.{Answer, hider}
-use Rattle.laws.proofs.Tree.{Once, once-of, place-once}
+use Rattle.rules.specs.Calls.{Answer, hider, windowIn}
+use Rattle.laws.proofs.Tree.{Once, once-of, place-once, sound-of}
 use Rattle.laws.proofs.Reflect.{record-is}
 use Rattle.laws.proofs.Climb.{climbs-itself, climbs-row, climb-cases, links-up, links-before}
 use Rattle.laws.proofs.Outlines.{outline-visible, outline-depth}
+use Rattle.windows.proofs.Window.{WideRows, window-sound, wide-S7}
+use Rattle.windows.proofs.Members.{member-climb, member-sees, root-some}
 use Rattle.demands.specs.Record.{Words32}
+use Rattle.demands.specs.Windows.{InWindow}
 use Rattle.demands.specs.Links.{Followed, PairIn, LinksRightly}
-use Rattle.demands.proofs.Lasting.{lasting}
-use Rattle.demands.proofs.Demand3.{noted}
+use Rattle.demands.proofs.Lasting.{lasting, wide-of}
+use Rattle.demands.proofs.Hides.{visible-asked}
 
 -- Where a document has one row, and a parent an earlier one.
 module _ (rows : List Row) (once : Once (length rows) (docAt rows)) (s4 : S4 rows) where
@@ -53,17 +57,40 @@ abbrev given : Answer → List ℕ
 given (Answer.gives values) = values
 given (Answer.refuses k values) = values
 
--- The pairs of the outline.
-outline-links : (words : List ℕ) → Sound words → Words32 words → (d n : ℕ) →
-    PairIn (outlineOf (tableOf words)) n d ↔ (So (visible (rowsOf words) d) × (climbOf (rowsOf words) d .links ≡ n))
-outline-links words s wide d n =
-    let links : ℕ → ℕ = λ d. climbOf (rowsOf words) d .links in
-    let good = lasting words wide s in
-    let there = outline-visible (tableOf words) (capacity words) (s .table) (good .doc) d in
-    let deep = outline-depth (tableOf words) (capacity words) (s .table) (good .doc) in (
-      λ r. (there .0 (r .0, r .1, r .3), ap links (sym (r .3)) ∙ sym (deep (r .0) (r .1)) ∙ r .2),
-      λ h. let r = there .1 (h .0) in (r .0, r .1, deep (r .0) (r .1) ∙ ap links (r .2) ∙ h .1, r .2),
-    )
+-- A window of a sound record.
+module _ (words : List ℕ) (s : Sound words) (wide : Words32 words) (r : ℕ) where
+  abbrev rows : List Row
+  rows = rowsOf words
+
+  abbrev own : List Row
+  own = windowRows r rows
+
+  sound : WideRows rows (tableOf words .nextDoc) (tableOf words .nextFrame)
+  sound = wide-of words wide s
+
+  -- The window is a sound table by itself.
+  own-table : So (isRoot rows r) → SoundTable (length own) (windowIn words r)
+  own-table root =
+      let u = window-sound rows sound r in
+      sound-of (record { some = root-some rows (sound .tree) r root; fits = omega arith }) (u .tree) (u .s6) (wide-S7 own (u .s7))
+
+  -- The pairs of its outline.
+  outline-links : So (isRoot rows r) → (d n : ℕ) → PairIn (outlineOf (windowIn words r)) n d ↔ (InWindow words r d × So (visible rows d) × (climbOf rows d .links ≡ n))
+  outline-links root d n =
+      let links : ℕ → ℕ = λ d. climbOf own d .links in
+      let sees = member-sees rows (sound .tree) r d in
+      let climbs = member-climb rows (sound .tree) r d in
+      let t = own-table root in
+      let word = lasting words wide s .doc in
+      let there = outline-visible (windowIn words r) (length own) t word d in
+      let deep = outline-depth (windowIn words r) (length own) t word in (
+        λ p.
+            let v = sees .0 (there .0 (p .0, p .1, p .3)) in
+            (v .0, v .1, ap (λ c. c .links) (sym (climbs (v .0))) ∙ ap links (sym (p .3)) ∙ sym (deep (p .0) (p .1)) ∙ p .2),
+        λ (h, v, e).
+            let p = there .1 (sees .1 (h, v)) in
+            (p .0, p .1, deep (p .0) (p .1) ∙ ap links (p .2) ∙ ap (λ c. c .links) (climbs h) ∙ e, p .2),
+      )
 
 -- "Let the answer carry the number of parent links followed [..] The number equals the links in the definition of that climb and is never more than the
 -- document's row place, counted from 0."
@@ -72,7 +99,7 @@ links-rightly words s =
     let rows = rowsOf words in
     let once = once-of (s .table) in
     let s4 = s .table .s4 in
-    let answers = noted words s .visible-asked in
+    let answers = visible-asked words s in
     record {
       links-asked = λ d n there. (
         λ r. links-are rows once s4 d n there .0 (ap (λ a. getD (given a) 2 0) (sym (answers d there) ∙ r .2)),

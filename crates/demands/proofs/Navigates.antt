@@ -10,7 +10,8 @@ use lib.ListN.{length}
 use borrow.Author.Tests.{ne-eqb, eqb-false, not-true}
 use Rattle.rules.specs.Rows.{Row, Table, none, rowAt, docAt, frameAt, parentAt, isShown, isDoc, place, marked}
 use Rattle.rules.specs.Steps.{visible}
-use Rattle.rules.specs.Moves.{cleared, hide, navigated}
+use Rattle.rules.specs.Moves.{hide}
+use Rattle.laws.specs.Alone.{clearedAll, navigatedAll}
 use Rattle.laws.proofs.Tests.{below-cases}
 use Rattle.laws.proofs.Flags.{flag-test, flags-length, flags-row}
 use Rattle.laws.proofs.Append.{length-snoc, snoc-old, snoc-new}
@@ -134,30 +135,30 @@ module _ (t : Table) (s : SoundRows (t .rows) (t .nextDoc) (t .nextFrame)) (unus
   rows = t .rows
 
   abbrev c : List Row
-  c = cleared rows
+  c = clearedAll rows
 
   abbrev x : Row
   x = record { doc = t .nextDoc; frame = frameAt rows (place rows d); parent = parentAt rows (place rows d); shown = 1 }
 
-  longer : length (navigated t d .rows) ≡ suc (length c)
-  unfolding navigated hide
+  longer : length (navigatedAll t d .rows) ≡ suc (length c)
+  unfolding navigatedAll hide
   longer = length-snoc (hide d c) x ∙ ap suc (flags-length _ c)
 
-  old-row : (i : ℕ) → i < length c → rowAt (navigated t d .rows) i ≡ marked (not (isDoc c d i) && isShown c i) (rowAt c i)
-  unfolding navigated hide
+  old-row : (i : ℕ) → i < length c → rowAt (navigatedAll t d .rows) i ≡ marked (not (isDoc c d i) && isShown c i) (rowAt c i)
+  unfolding navigatedAll hide
   old-row i l = snoc-old (hide d c) x i (subst (λ n. i < n) (sym (flags-length _ c)) l) ∙ flags-row _ c i l
 
-  new-row : rowAt (navigated t d .rows) (length c) ≡ x
-  unfolding navigated hide
+  new-row : rowAt (navigatedAll t d .rows) (length c) ≡ x
+  unfolding navigatedAll hide
   new-row = subst (λ n. rowAt (hide d c ++ x ∷ []) n ≡ x) (flags-length _ c) (snoc-new (hide d c) x)
 
-  pub navigate-model : Same (navigating (ofRows rows) d (t .nextDoc)) (ofRows (navigated t d .rows))
+  pub navigate-model : Same (navigating (ofRows rows) d (t .nextDoc)) (ofRows (navigatedAll t d .rows))
   navigate-model =
       let k = stayed t s unused d sees in
       let tr = cleared-removed rows s .sound .tree in
       let m = length c in
       let a = alike {l = c} {m = rows} {i = k .0} {k = place rows d} (k .2) in
-      let new = navigated t d .rows in
+      let new = navigatedAll t d .rows in
       same-trans (replacing-same (cleared-model rows s) d (t .nextDoc))
       (subst (λ n. Same (replacing (ofRows c) d (t .nextDoc)) (ofPlaces n (docAt new) (frameAt new) (parentAt new) (isShown new))) (sym longer)
       (replaced m (docAt c) (frameAt c) (parentAt c) (isShown c) (docAt new) (frameAt new) (parentAt new) (isShown new) (t .nextDoc) d (k .0) (distinct tr) (k .1) (ap (λ y. y .doc) (k .2) ∙ k .3)

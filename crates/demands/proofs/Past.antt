@@ -8,8 +8,9 @@ use lib.ListN.{length, getD, length-take}
 use lib.Seq.{getD-take, take-at, drop-at}
 use borrow.Author.Tests.{ltb-true, ltb-false, leb-false, lt-ltb}
 use Rattle.rules.specs.Below.{tab}
-use Rattle.rules.specs.Rows.{Table}
-use Rattle.rules.specs.Moves.{freshTable, opened, cleared, navigated, traversed, dropped, replaced}
+use Rattle.rules.specs.Rows.{Table, none, place}
+use Rattle.rules.specs.Windows.{rootAt}
+use Rattle.rules.specs.Moves.{freshTable, opened, tabbed, cleared, navigated, traversed, dropped, replaced}
 use Rattle.rules.specs.Words.{capacity, rowIn, tableOf, rowsOf, wordsOf, written}
 use Rattle.rules.specs.Sound.{SoundTable, Sound, sound?}
 use Rattle.rules.specs.Saved.{loaded, fromSave?}
@@ -19,9 +20,9 @@ use Rattle.laws.proofs.Tests.{test, same-tests, count-most, tab-same}
 use Rattle.laws.proofs.Reflect.{sound-is}
 use Rattle.laws.proofs.Drop.{staysBut, dropped-length}
 use Rattle.laws.proofs.Replace.{staysOver, replaced-length}
-use Rattle.laws.proofs.Navigate.{opened-length, navigated-length}
-use Rattle.laws.proofs.Travel.{walked-length}
+use Rattle.laws.proofs.Navigate.{opened-length, navigated-length, traversed-length}
 use Rattle.laws.proofs.Words.{rows-length, length-wordsOf, length-written, capacity-written, written-is}
+use Rattle.laws.proofs.Calls.{ladder-same}
 use Rattle.demands.specs.Past.{near, past, butPast, Kept, Spares, PastSpared}
 use Rattle.demands.proofs.Lasting.{long}
 use Rattle.laws.specs.Loading.{rungs, fills}
@@ -71,16 +72,9 @@ sound-same a b h =
 
 -- TWO LADDERS
 
--- What holds of two refusals by one number, and of what two ladders with the same rungs end in, holds of the ladders.
+-- The rungs after refusals 1 and 2 are asked of a sound record only, and need be the same only there.
 module _ (R : Outcome → Outcome → Type 0) {lent runs : List (List ℕ)} {done made : Outcome}
     (refused : (k : ℕ) (vs : List ℕ) → R (record { answer = Answer.refuses k vs; lent = lent }) (record { answer = Answer.refuses k vs; lent = runs })) where
-  ladder-same : (rungs : List Rung) → (NoneGiven rungs → R done made) → R (ladder rungs lent done) (ladder rungs runs made)
-  unfolding ladder NoneGiven
-  ladder-same [] top = top tt
-  ladder-same (r ∷ rungs) top =
-      test (r .holds) (λ t. rw t (refused (r .number) (r .carries))) (λ f. rw f (ladder-same rungs (λ n. top (f, n))))
-
-  -- The rungs after refusals 1 and 2 are asked of a sound record only, and need be the same only there.
   guarded : (a b : List ℕ) → near a ≡ near b → {more others : List Rung} →
       (Sound a → tableOf a ≡ tableOf b → capacity a ≡ capacity b → (more ≡ others) × (NoneGiven more → R done made)) →
       R (ladder (1 when short a ∷ 2 when unsound a ∷ more) lent done) (ladder (1 when short b ∷ 2 when unsound b ∷ others) runs made)
@@ -92,7 +86,7 @@ module _ (R : Outcome → Outcome → Type 0) {lent runs : List (List ℕ)} {don
       (λ t.
       let s = sound-is a .0 (sound-same a b h ∙ t) in
       let r = rest s (table-same a b h s) (capacity-same a b h) in
-      rw (t, ← (r .0)) (ladder-same more (r .1)))
+      rw (t, ← (r .0)) (ladder-same R refused more (r .1)))
       (λ o. rw o (refused 2 [])))))
 
 -- WHAT A CALL WRITES
@@ -143,7 +137,7 @@ loads-alike words taken t other h =
 
 -- "words past 3 + 4C are neither read nor written"
 pub past-spared : PastSpared
-unfolding outcome refusals accepted NoneGiven
+unfolding outcome refusals accepted NoneGiven tabbed
 past-spared (Call.Fresh words) =
     writes _ words (λ other h.
     rw (short-same words other h) (ladder-same (Wrote words) (wrote-nothing words other h []) _ (λ n.
@@ -163,16 +157,16 @@ past-spared (Call.Navigate words from) =
     guarded (Wrote words) (wrote-nothing words other h []) words other h (λ s t c. (
       cc,
       λ n.
-          let r : length (cleared (rowsOf words)) < capacity words = leb-false _ _ (n .1 .1 .0) in
+          let r : length (cleared (rootAt (rowsOf words) (place (rowsOf words) from)) (rowsOf words)) < capacity words = leb-false _ _ (n .1 .1 .0) in
           rw (← t) (wrote-table words other h (navigated (tableOf words) from) _ [] (long words s) (omega (arith, navigated-length (tableOf words) from))),
     )))
-past-spared (Call.Traverse words δ room) =
+past-spared (Call.Traverse words root δ room) =
     writes _ words (λ other h.
     guarded (Wrote words) (wrote-nothing words other h (room ∷ [])) words other h (λ s t c. (
       cc,
       λ n.
           let r = s .table .s1 .fits in
-          rw (← t) (wrote-table words other h (traversed (tableOf words) δ) _ _ (long words s) (omega (arith, walked-length δ (rowsOf words)))),
+          rw (← t) (wrote-table words other h (traversed (tableOf words) root δ) _ _ (long words s) (omega (arith, traversed-length (tableOf words) root δ))),
     )))
 past-spared (Call.Drop words frame) =
     writes _ words (λ other h.
@@ -192,12 +186,20 @@ past-spared (Call.Replace words d) =
           let few = count-most (staysOver d (rowsOf words)) (length (rowsOf words)) in
           rw (← t) (wrote-table words other h (replaced (tableOf words) d) _ [] (long words s) (omega (arith, replaced-length (tableOf words) d))),
     )))
-past-spared (Call.Position words) = λ other h. guarded _≡_ (λ k vs. refl) words other h (λ s t c. (cc, λ n. cc))
+past-spared (Call.Tab words) =
+    writes _ words (λ other h.
+    guarded (Wrote words) (wrote-nothing words other h []) words other h (λ s t c. (
+      cc,
+      λ n.
+          let r : length (rowsOf words) < capacity words = leb-false _ _ (n .0) in
+          rw (← t) (wrote-table words other h (tabbed (tableOf words)) _ [] (long words s) (omega (arith, opened-length (tableOf words) none))),
+    )))
+past-spared (Call.Position words root) = λ other h. guarded _≡_ (λ k vs. refl) words other h (λ s t c. (cc, λ n. cc))
 past-spared (Call.Visible words d) = λ other h. guarded _≡_ (λ k vs. refl) words other h (λ s t c. (cc, λ n. cc))
-past-spared (Call.Lists words takens upcomings) = λ other h. guarded _≡_ (λ k vs. refl) words other h (λ s t c. (cc, λ n. cc))
+past-spared (Call.Lists words root takens upcomings) = λ other h. guarded _≡_ (λ k vs. refl) words other h (λ s t c. (cc, λ n. cc))
 past-spared (Call.Stretch takens upcomings δ) = tt
 past-spared (Call.StretchCount takens upcomings δ) = tt
-past-spared (Call.Outline words room) = λ other h. guarded _≡_ (λ k vs. refl) words other h (λ s t c. (cc, λ n. cc))
+past-spared (Call.Outline words root room) = λ other h. guarded _≡_ (λ k vs. refl) words other h (λ s t c. (cc, λ n. cc))
 past-spared (Call.Save words room) = λ other h. guarded _≡_ (λ k vs. refl) words other h (λ s t c. (cc, λ n. cc))
 past-spared (Call.Load words bytes) = writes _ words (loads-alike words (fromSave? bytes) (loaded bytes))
 past-spared (Call.LoadOld words bytes) = writes _ words (loads-alike words (fromOldSave? bytes) (oldLoaded bytes))

@@ -12,7 +12,8 @@ use borrow.Author.Tests.{eqb-true, eq-eqb, leb-true, le-leb, le-ltb, not-true}
 use Rattle.rules.specs.Below.{someBelow, allBelow, count, earliest, latest, tab, gather}
 use Rattle.rules.specs.Rows.{Row, Table, none, docAt, frameAt, isShown, inRecord, place, isFrame, withFlags, climb}
 use Rattle.rules.specs.Steps.{step, reach, taken, position, steps, climbOf, hiderOf, visible}
-use Rattle.rules.specs.Moves.{gone, without, hide, navigated, renamed, replaced, show, forward, backTarget, rowBefore, back, walked, shownDoc, changeRow, changes}
+use Rattle.rules.specs.Windows.{rootAt, windowRows, isRoot}
+use Rattle.rules.specs.Moves.{gone, without, hide, navigated, renamed, replaced, show, forward, backTarget, rowBefore, back, walked, reflagged, traversed, shownDoc, changeRow, changes}
 use Rattle.rules.specs.Words.{put, tableOf, rowsOf, wordsOf, written}
 use Rattle.rules.specs.Sound.{soundTable?, sound?, Sound}
 use Rattle.rules.specs.Saved.{parentOf}
@@ -22,7 +23,7 @@ use Rattle.laws.proofs.Tests.{clash, or-left, or-right, by-lt, all-out}
 use Rattle.laws.proofs.Reflect.{sound-is, sound-table-is}
 use Rattle.laws.proofs.Central.{position-steps}
 use Rattle.laws.proofs.Tree.{tree-of}
-use Rattle.laws.proofs.Removal.{sound-rows}
+use Rattle.windows.proofs.Window.{wide-rows, window-sound}
 use Rattle.demands.specs.Record.{Words32}
 use Rattle.demands.specs.Model.{Future, Backward}
 use Rattle.demands.specs.Follows.{ofRows}
@@ -52,13 +53,13 @@ unfolding written wordsOf put allBelow flatMap
 ten-wide = wide-by ten refl
 
 ten-sound : Sound ten
-unfolding someBelow allBelow count earliest latest tab gather step reach put tableOf wordsOf written soundTable? sound? flatMap
+unfolding rootAt someBelow allBelow count earliest latest tab gather step reach put tableOf wordsOf written soundTable? sound? flatMap
 ten-sound = sound-is ten .0 refl
 
 -- "P11 shows a shown document deleted": navigating from 1 removes 2 and with it 3, and -1 does not bring 3 back.
 pub back-does-not-restore : BackRestoresShown → ⊥
-unfolding someBelow allBelow count earliest latest tab gather inRecord place isFrame withFlags climb step reach position steps climbOf hiderOf visible
-    gone without hide navigated show backTarget rowBefore back walked shownDoc changeRow changes
+unfolding rootAt windowRows isRoot someBelow allBelow count earliest latest tab gather inRecord place isFrame withFlags climb step reach position steps climbOf hiderOf visible
+    gone without hide navigated show backTarget rowBefore back walked reflagged traversed shownDoc changeRow changes
     put tableOf wordsOf written soundTable? sound? refusals accepted ladder outcome flatMap
 back-does-not-restore claim =
     let e : _≡_ {A = List ℕ} (0 ∷ 1 ∷ []) (0 ∷ 1 ∷ 3 ∷ []) = claim ten 1 (replicate 4 0) ten-wide ten-sound (4 ∷ [], refl) (1 ∷ [], refl) in
@@ -69,33 +70,36 @@ abbrev five : Table
 five = record { rows = row 0 0 none 1 ∷ row 1 1 0 1 ∷ row 2 2 0 1 ∷ row 3 1 0 0 ∷ []; nextDoc = 4; nextFrame = 3 }
 
 pub own-future-not-enough : OwnFutureEnough → ⊥
-unfolding someBelow allBelow count earliest latest tab gather inRecord place withFlags climb step reach climbOf hiderOf visible gone without hide soundTable?
+unfolding rootAt someBelow allBelow count earliest latest tab gather inRecord place withFlags climb step reach climbOf hiderOf visible gone without hide soundTable?
 own-future-not-enough claim =
     let s7 = claim 8 five 2 (sound-table-is 8 five .0 refl) refl in
-    omega (arith, s7 .later 3 4 (omega arith) (omega arith) refl refl refl)
+    omega (arith, s7 .later 3 4 (omega arith) (omega arith) refl refl refl refl)
 
 -- DEMAND 3
 
 isNavigation : Move → Bool
 isNavigation (Move.opens p) = false
 isNavigation (Move.navigates d) = true
-isNavigation (Move.goes δ room) = false
+isNavigation (Move.goes r δ room) = false
 isNavigation (Move.drops f) = false
 isNavigation (Move.replaces d) = false
+isNavigation Move.tabs = false
 
 isDrop : Move → Bool
 isDrop (Move.opens p) = false
 isDrop (Move.navigates d) = false
-isDrop (Move.goes δ room) = false
+isDrop (Move.goes r δ room) = false
 isDrop (Move.drops f) = true
 isDrop (Move.replaces d) = false
+isDrop Move.tabs = false
 
 isReplacement : Move → Bool
 isReplacement (Move.opens p) = false
 isReplacement (Move.navigates d) = false
-isReplacement (Move.goes δ room) = false
+isReplacement (Move.goes r δ room) = false
 isReplacement (Move.drops f) = false
 isReplacement (Move.replaces d) = true
+isReplacement Move.tabs = false
 
 someMove : (Move → Bool) → List Move → Bool
 someMove p [] = false
@@ -111,17 +115,17 @@ not-among p moves none before rest m t e = clash (found before) (ap (someMove p)
     found (k ∷ before) = or-right (p k) (found before)
 
 -- Moves without a navigation have none from a lower position; without a drop none removes a taken step; without a replacement none is of a noted document.
-none-below : (words : List ℕ) (moves : List Move) → someMove isNavigation moves ≡ false → NoneBelow words moves
+none-below : (words : List ℕ) (r : ℕ) (moves : List Move) → someMove isNavigation moves ≡ false → NoneBelow words r moves
 unfolding isNavigation
-none-below words moves none before rest d e a = absurd (not-among isNavigation moves none before rest (Move.navigates d) refl e)
+none-below words r moves none before rest d e a own = absurd (not-among isNavigation moves none before rest (Move.navigates d) refl e)
 
-taken-stay : (words : List ℕ) (moves : List Move) → someMove isDrop moves ≡ false → TakenStay words moves
+taken-stay : (words : List ℕ) (r : ℕ) (moves : List Move) → someMove isDrop moves ≡ false → TakenStay words r moves
 unfolding isDrop
-taken-stay words moves none before rest f d e h t = not-among isDrop moves none before rest (Move.drops f) refl e
+taken-stay words r moves none before rest f d e h t = not-among isDrop moves none before rest (Move.drops f) refl e
 
-none-replaced : (words : List ℕ) (moves : List Move) → someMove isReplacement moves ≡ false → NoneReplaced words moves
+none-replaced : (words : List ℕ) (r : ℕ) (moves : List Move) → someMove isReplacement moves ≡ false → NoneReplaced words r moves
 unfolding isReplacement
-none-replaced words moves none before rest d e a there = not-among isReplacement moves none before rest (Move.replaces d) refl e
+none-replaced words r moves none before rest d e a there = not-among isReplacement moves none before rest (Move.replaces d) refl e
 
 -- Of steps 3 and 4, in frames 1 and 2, the first is taken. Frame 1 goes, step 4 is taken: the position is 1 again, and document 2 of frame 2 has given way to 4.
 abbrev two : List ℕ
@@ -130,12 +134,12 @@ two =
     (record { rows = row 0 0 none 1 ∷ row 1 1 0 0 ∷ row 2 2 0 1 ∷ row 3 1 0 1 ∷ row 4 2 0 0 ∷ []; nextDoc = 5; nextFrame = 3 })
 
 pub taken-may-not-go : AnyDrop → ⊥
-unfolding someBelow allBelow count earliest latest tab gather inRecord place isFrame withFlags climb step reach position steps climbOf hiderOf visible
-    gone without show forward walked shownDoc changeRow changes parentOf isNavigation isReplacement someMove
+unfolding rootAt windowRows isRoot someBelow allBelow count earliest latest tab gather inRecord place isFrame withFlags climb step reach position steps climbOf hiderOf visible
+    gone without show forward walked reflagged traversed shownDoc changeRow changes parentOf isNavigation isReplacement someMove
     put tableOf wordsOf written soundTable? sound? refusals accepted ladder outcome run flatMap
 taken-may-not-go claim =
-    let moves = Move.drops 1 ∷ Move.goes (pos 1) (replicate 4 0) ∷ [] in
-    false≢true (claim two moves (wide-by two refl) (sound-is two .0 refl) (none-below two moves refl) (none-replaced two moves refl) moves [] refl refl 2 refl refl)
+    let moves = Move.drops 1 ∷ Move.goes 0 (pos 1) (replicate 4 0) ∷ [] in
+    false≢true (claim two 0 moves (wide-by two refl) (sound-is two .0 refl) refl (none-below two 0 moves refl) (none-replaced two 0 moves refl) moves [] refl refl 2 refl refl)
 
 -- Step 3 lies in document 1 and is taken, step 4 is upcoming in the frame of 1. With 1 replaced 3 goes, and step 4 is taken: the position is 1 again, and 4 is visible.
 abbrev nested : List ℕ
@@ -144,26 +148,26 @@ nested =
     (record { rows = row 0 0 none 1 ∷ row 1 1 0 1 ∷ row 2 2 1 0 ∷ row 3 2 1 1 ∷ row 4 1 0 0 ∷ []; nextDoc = 5; nextFrame = 3 })
 
 pub noted-may-not-be-replaced : AnyReplacement → ⊥
-unfolding someBelow allBelow count earliest latest tab gather inRecord place isFrame withFlags climb step reach position steps climbOf hiderOf visible
-    gone without renamed replaced show forward walked shownDoc changeRow changes isNavigation isDrop someMove
+unfolding rootAt windowRows isRoot someBelow allBelow count earliest latest tab gather inRecord place isFrame withFlags climb step reach position steps climbOf hiderOf visible
+    gone without renamed replaced show forward walked reflagged traversed shownDoc changeRow changes isNavigation isDrop someMove
     put tableOf wordsOf written soundTable? sound? refusals accepted ladder outcome run flatMap
 noted-may-not-be-replaced claim =
-    let moves = Move.replaces 1 ∷ Move.goes (pos 1) (replicate 4 0) ∷ [] in
-    false≢true (sym (claim nested moves (wide-by nested refl) (sound-is nested .0 refl) (none-below nested moves refl) (taken-stay nested moves refl) moves [] refl refl 4 refl refl))
+    let moves = Move.replaces 1 ∷ Move.goes 0 (pos 1) (replicate 4 0) ∷ [] in
+    false≢true (sym (claim nested 0 moves (wide-by nested refl) (sound-is nested .0 refl) refl (none-below nested 0 moves refl) (taken-stay nested 0 moves refl) moves [] refl refl 4 refl refl))
 
 -- Frame 1 has no step. It goes, and document 1 with it, which was visible.
 abbrev one : List ℕ
 one = written (replicate 11 0) (record { rows = row 0 0 none 1 ∷ row 1 1 0 1 ∷ []; nextDoc = 2; nextFrame = 2 })
 
 pub gone-not-as-noted : GoneAsNoted → ⊥
-unfolding someBelow allBelow count earliest latest tab gather inRecord place isFrame withFlags climb step reach position steps climbOf hiderOf visible
+unfolding rootAt windowRows isRoot someBelow allBelow count earliest latest tab gather inRecord place isFrame withFlags climb step reach position steps climbOf hiderOf visible
     gone without parentOf isNavigation isReplacement someMove put tableOf wordsOf written soundTable? sound? refusals accepted ladder outcome run flatMap
 gone-not-as-noted claim =
     let moves = Move.drops 1 ∷ [] in
-    false≢true (claim one moves (wide-by one refl) (sound-is one .0 refl) (record {
-      none-below = none-below one moves refl;
-      taken-stay = λ before rest f d e h t. clash (t .3) (not-true _ (all-out (λ i. not (taken (rowsOf one) i)) 2 refl (t .0) (t .1)));
-      none-replaced = none-replaced one moves refl;
+    false≢true (claim one 0 moves (wide-by one refl) (sound-is one .0 refl) refl (record {
+      none-below = none-below one 0 moves refl;
+      taken-stay = λ before rest f d e h t. clash (t .3) (not-true _ (all-out (λ i. not (taken (windowRows 0 (rowsOf one)) i)) 2 refl (t .0) (t .1)));
+      none-replaced = none-replaced one 0 moves refl;
     }) moves [] refl refl 1 refl)
 
 -- 001'S MODEL
@@ -208,11 +212,11 @@ abbrev underHidden : Table
 underHidden = record { rows = row 0 0 none 1 ∷ row 1 1 0 0 ∷ row 2 2 1 1 ∷ row 3 1 0 1 ∷ row 4 2 1 0 ∷ []; nextDoc = 5; nextFrame = 3 }
 
 pub visible-futures-not-enough : VisibleFuturesEnough → ⊥
-unfolding someBelow allBelow count climb step reach climbOf hiderOf visible soundTable?
+unfolding rootAt windowRows someBelow allBelow count climb step reach climbOf hiderOf visible soundTable? gather
 visible-futures-not-enough claim =
     let rows = underHidden .rows in
     let s = sound-table-is 8 underHidden .0 refl in
-    let x = claim 8 underHidden 4 s (omega arith) refl in
+    let x = claim 8 underHidden 0 4 s (leb-true 5 (length (windowRows 0 rows)) refl) refl in
     let sees = visible-active rows (tree-of s (omega arith)) (x .0) .1 (x .1) in
     nowhere rows refl (λ d e. visible rows d && eqb e 4) refl (x .0) 4 (x .2) (simp and-eq-true-iff (sees, refl))
 
@@ -221,10 +225,10 @@ abbrev crossed : Table
 crossed = record { rows = row 0 0 none 1 ∷ row 1 1 0 0 ∷ row 2 2 0 0 ∷ row 3 2 0 1 ∷ row 4 1 0 1 ∷ []; nextDoc = 5; nextFrame = 3 }
 
 pub back-is-not-to-latest-past : BackIs ToLatestPast → ⊥
-unfolding someBelow allBelow count latest tab withFlags step reach position show backTarget rowBefore back soundTable?
+unfolding rootAt windowRows someBelow allBelow count latest tab withFlags step reach position show backTarget rowBefore back soundTable? gather climb
 back-is-not-to-latest-past claim =
     let rows = crossed .rows in
-    let x = claim 8 crossed (sound-table-is 8 crossed .0 refl) (omega arith) (omega arith) in
+    let x = claim 8 crossed 0 (sound-table-is 8 crossed .0 refl) (omega arith) (leb-true 1 (position (windowRows 0 rows)) refl) in
     let d = x .0 in
     let past = x .1 .0 in
     let shown = shown-told (back rows) refl d (x .2 .A d .0 (inr refl)) in
@@ -236,10 +240,10 @@ abbrev tenBefore : Table
 tenBefore = record { rows = row 0 0 none 0 ∷ row 1 1 0 1 ∷ row 2 0 none 1 ∷ row 3 2 2 1 ∷ []; nextDoc = 4; nextFrame = 3 }
 
 pub back-is-not-from-latest-of-all : BackIs FromLatestOfAll → ⊥
-unfolding someBelow allBelow count latest tab withFlags step reach position show backTarget rowBefore back soundTable?
+unfolding rootAt windowRows someBelow allBelow count latest tab withFlags step reach position show backTarget rowBefore back soundTable? gather climb
 back-is-not-from-latest-of-all claim =
     let rows = tenBefore .rows in
-    let x = claim 8 tenBefore (sound-table-is 8 tenBefore .0 refl) (omega arith) (omega arith) in
+    let x = claim 8 tenBefore 0 (sound-table-is 8 tenBefore .0 refl) (omega arith) (leb-true 1 (position (windowRows 0 rows)) refl) in
     let late = order-told rows refl 3 (x .0) (x .2 .1 3 (inr (3, omega arith, refl, refl))) in
     nowhere rows refl (λ d e. leb 3 e) refl (x .1) (x .0) (x .3 .0) (le-leb _ _ late)
 
@@ -248,10 +252,10 @@ abbrev three : Table
 three = record { rows = row 0 0 none 0 ∷ row 1 0 none 0 ∷ row 2 0 none 1 ∷ []; nextDoc = 3; nextFrame = 1 }
 
 pub back-is-not-to-first : BackIs ToFirst → ⊥
-unfolding someBelow allBelow count latest tab withFlags step reach position show backTarget rowBefore back soundTable?
+unfolding rootAt windowRows someBelow allBelow count latest tab withFlags step reach position show backTarget rowBefore back soundTable? gather
 back-is-not-to-first claim =
     let rows = three .rows in
-    let x = claim 8 three (sound-table-is 8 three .0 refl) (omega arith) (omega arith) in
+    let x = claim 8 three 0 (sound-table-is 8 three .0 refl) (omega arith) (leb-true 1 (position (windowRows 0 rows)) refl) in
     let d' = x .0 in
     let d = x .1 in
     let f = future-told rows refl d d' (x .2) in
@@ -263,8 +267,8 @@ back-is-not-to-first claim =
 -- Patch 3 as document 01 reads it is what Back does.
 pub back-is-backward : BackIs (Backward 1)
 unfolding walked
-back-is-backward room t s wide some =
-    let rows = t .rows in
+back-is-backward room t r s wide some =
+    let rows = windowRows r (t .rows) in
     let low : position rows - 1 ≤ steps rows = omega (arith, position-steps rows) in
     let inside : outside (steps rows) (pos (position rows) +ℤ negsuc 0) ≡ false = rw (le-ltb (position rows) 1 some) (le-ltb _ _ low) in
-    walk-model rows (sound-rows s wide) (negsuc 0) inside (ofRows (back rows)) .1 (same-refl _)
+    walk-model rows (window-sound (t .rows) (wide-rows s wide) r) (negsuc 0) inside (ofRows (back rows)) .1 (same-refl _)

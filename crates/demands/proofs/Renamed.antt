@@ -2,7 +2,7 @@
 use Prim.Native.Nat.{ℕ, _≤_, _<_}
 use mathlib.Core.Path.{_≡_, refl, sym, ap, _∙_, subst}
 use mathlib.Core.List.{List}
-use mathlib.Core.Logic.{_≢_, _⊎_, inl, ⊎-elim}
+use mathlib.Core.Logic.{_≢_, inl, ⊎-elim}
 use mathlib.Core.Bool.{So}
 use native.Mathlib.Omega.{arith}
 use lib.ListN.{length}
@@ -18,6 +18,7 @@ use Rattle.laws.proofs.Tree.{TreeOf}
 use Rattle.laws.proofs.Reflect.{record-is}
 use Rattle.laws.proofs.Navigate.{tree-at}
 use Rattle.laws.proofs.Replace.{renamed-length, renamed-frame, renamed-parent, renamed-doc, renamed-steps, tree-renamed}
+use Rattle.demands.proofs.From.{renamed-back, from-renamed}
 use Rattle.demands.proofs.Seen.{seen-over}
 use Rattle.demands.proofs.Steady.{Early, Closed, Steady, seen-in}
 
@@ -36,12 +37,6 @@ module _ (Out : Type 0) (p n : ℕ) (rows : List Row) (few : p ≤ steps rows) (
     same-doc i l ne = renamed-doc d m rows i l ∙ rw (ne-eqb (docAt rows i) d ne) refl
 
     -- A document below n stands where it stood.
-    doc-back : (i e : ℕ) → i < length rows → e < n → docAt to i ≡ e → docAt rows i ≡ e
-    doc-back i e l x q =
-        test (isDoc rows d i)
-        (λ y. absurd (let z : m ≡ e = sym (rw y at (renamed-doc d m rows i l)) ∙ q in omega arith))
-        (λ y. sym (rw y at (renamed-doc d m rows i l)) ∙ q)
-
     doc-on : (i e : ℕ) → i < length rows → e < n → docAt rows i ≡ e → docAt to i ≡ e
     doc-on i e l x q = same-doc i l (λ z. omega arith) ∙ q
 
@@ -82,7 +77,7 @@ module _ (Out : Type 0) (p n : ℕ) (rows : List Row) (few : p ≤ steps rows) (
         let o = record-is to e .0 h in
         let l : o .0 < length rows = subst (λ n. o .0 < n) len (o .1) in
         let a : docAt (flagsAt p to) (o .0) ≡ e = ap (λ f. f (o .0)) (at-doc p to) ∙ o .2 in
-        let c : docAt (flagsAt p rows) (o .0) ≡ e = ap (λ f. f (o .0)) (at-doc p rows) ∙ doc-back (o .0) e l x (o .2) in
+        let c : docAt (flagsAt p rows) (o .0) ≡ e = ap (λ f. f (o .0)) (at-doc p rows) ∙ renamed-back n d m rows new (o .0) e l x (o .2) in
         let n1 = at-length p to in
         let n2 = at-length p rows in
         let tree = tree-renamed d m rows t left bare in
@@ -108,10 +103,7 @@ module _ (Out : Type 0) (p n : ℕ) (rows : List Row) (few : p ≤ steps rows) (
               let was = closed i k (subst (λ v. n ≤ v) par a) (λ z. ne (par ∙ z)) in
               subst (λ v. n ≤ v) (sym (renamed-doc d m rows i k)) (test (isDoc rows d i) (λ y. rw y new) (λ y. rw y was));
           noted = renamed-noted;
-          was = λ e x h.
-              let o = record-is to e .0 h in
-              let l : o .0 < length rows = subst (λ n. o .0 < n) len (o .1) in
-              record-is rows e .1 (o .0, l, doc-back (o .0) e l x (o .2));
+          was = from-renamed n d m rows new;
           seen = seen-renamed;
           lost = λ e x v.
               let o = record-is rows e .0 (seen-in Out p n rows few closed e v) in

@@ -12,8 +12,8 @@ use Rattle.rules.specs.Rows.{Table}
 use Rattle.rules.specs.Words.{put, capacity, tableOf, rowsOf, written}
 use Rattle.rules.specs.Sound.{Sound}
 use Rattle.rules.specs.Saved.{saved, loaded, fromSave?}
-use Rattle.rules.specs.OldSaved.{oldSaved, oldLoaded, S2rising}
-use Rattle.rules.specs.Calls.{Call, Answer, _leaving_, refusals, accepted, outcome, NoneGiven}
+use Rattle.rules.specs.OldSaved.{oldSaved, oldLoaded, S2rising, S5alone}
+use Rattle.rules.specs.Calls.{Call, Answer, refusals, accepted, outcome, NoneGiven}
 use Rattle.rules.specs.Runs.{Move, after, run}
 use Rattle.laws.proofs.Reflect.{sound-is}
 use Rattle.laws.proofs.Words.{table-written, length-written, written-written, written-table}
@@ -141,13 +141,13 @@ pub takes-old : TakesOld
 unfolding lines
 takes-old =
     record {
-      takes = λ words other s order fits.
+      takes = λ words other s order alone fits.
           let t = table-of words s in
           let bytes = oldSaved (tableOf words) in
           let back : oldLoaded bytes ≡ tableOf words = old-loaded-saved (tableOf words) t order in
           let o = subst (λ u. outcome (Call.LoadOld other bytes) ≡ fills other u) back (load-in (load-old-is other bytes) (record {
             seven = omega (arith, t .s1 .some);
-            from = from-old-save-in (tableOf words) (record { sound = t; order = order });
+            from = from-old-save-in (tableOf words) (record { sound = t; order = order; alone = alone });
             fits = rw back fits;
           })) in
           let some = t .s1 .some in
@@ -155,6 +155,6 @@ takes-old =
       only = λ words bytes a.
           let s = from-old-save-is bytes .0 (load-out (load-old-is words bytes) a .from) in
           let r = load-leaves (load-old-is words bytes) (λ h. s .0 .sound) a in
-          (r .0, subst (λ (t : Table). S2rising (t .rows) (t .nextDoc)) (sym (r .1)) (s .0 .order), ap oldSaved (r .1) ∙ s .1);
+          (r .0, subst (λ (t : Table). S2rising (t .rows) (t .nextDoc)) (sym (r .1)) (s .0 .order), subst (λ (t : Table). S5alone (t .rows)) (sym (r .1)) (s .0 .alone), ap oldSaved (r .1) ∙ s .1);
       refuses = λ words bytes. refused-three (Call.LoadOld words bytes) words _ (NotSavedThen bytes) refl;
     }

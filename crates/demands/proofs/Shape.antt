@@ -88,7 +88,7 @@ module _ (rows : List Row) {a b : ℕ} (s : SoundRows rows a b) where
       let up : reached rows (u .1) ≡ false =
       off (reached rows (u .1)) (λ r.
       let k = reach-out (length rows) (frameAt rows) (isShown rows) (u .1) r in
-      let z = only-shown rows (s .s6) (s .s7) (p .0) (k .0) (p .1) (k .2) (k .3 ∙ sym (u .6) ∙ ap (frameAt rows) (sym e)) (p .3) (k .4) in
+      let z = only-shown rows (s .s6) (p .0) (k .0) (p .1) (k .2) (k .3 ∙ sym (u .6) ∙ ap (frameAt rows) (sym e)) (p .3) (k .4) in
       omega (arith, u .2, k .1)) in
       let l = s .s7 .later (u .1) (v .1) (u .3) (v .3) (simp and-eq-true-iff (step-in (frameAt rows) (u .2) (u .6), rw up refl)) (step-in (frameAt rows) (v .2) (v .6)) (subst (λ i. So (isShown rows i)) f (q .3)) in
       (v .1, u .1, omega arith, u .3, v .5, u .5)
@@ -114,5 +114,5 @@ module _ (rows : List Row) {a b : ℕ} (s : SoundRows rows a b) where
         (o .0, o .1, refl, t .1),
         λ e root a.
             let f = s .root (a .0) (o .0) (a .1) (o .1) (root-row e root (a .0) (a .1) (a .2)) z' in
-            sym (a .2) ∙ ap (docAt rows) (only-shown rows (s .s6) (s .s7) (a .0) (o .0) (a .1) (o .1) (sym f) (a .3) (t .1)),
+            sym (a .2) ∙ ap (docAt rows) (only-shown rows (s .s6) (a .0) (o .0) (a .1) (o .1) (sym f) (a .3) (t .1)),
       )

@@ -20,7 +20,9 @@ use Rattle.laws.proofs.Kept.{kept, kept-frames, Whole, step-kept, steps-kept, r
 use Rattle.laws.proofs.Tree.{TreeOf, came}
 use Rattle.laws.proofs.Reflect.{record-is}
 use Rattle.laws.proofs.Navigate.{tree-at}
-use Rattle.demands.proofs.Seen.{seen-append, seen-there, at-record, seen-still, kept-at}
+use Rattle.laws.proofs.Climb.{seen-there}
+use Rattle.demands.proofs.From.{From, from-append, from-kept}
+use Rattle.demands.proofs.Seen.{seen-append, at-record, seen-still, kept-at}
 
 -- Of so many places, document d stands at one of the first p steps.
 abbrev EarlyIn : ℕ → ℕ → ℕ → (ℕ → ℕ) → (ℕ → ℕ) → Type 0
@@ -47,7 +49,7 @@ pub record Steady (Out : Type 0) (p n : ℕ) (rows to : List Row) : Type 0 where
   -- The first p steps are the same.
   pub noted : (d : ℕ) → Early p to d → Early p rows d
   -- None of the documents below n is new, and those in the record are seen as before at position p.
-  pub was : (d : ℕ) → d < n → So (inRecord to d) → So (inRecord rows d)
+  pub was : From n rows to
   pub seen : (d : ℕ) → d < n → So (inRecord to d) → visible (flagsAt p to) d ≡ visible (flagsAt p rows) d
   -- What was seen is in the record still, unless a frame went.
   pub lost : (d : ℕ) → d < n → So (visible (flagsAt p rows) d) → So (inRecord to d) ⊎ Out
@@ -115,12 +117,7 @@ module _ (Out : Type 0) (p n : ℕ) (rows : List Row) (few : p ≤ steps rows) (
               subst (λ (x : Row). n ≤ x .doc) (sym o) (closed i m (subst (λ (x : Row). n ≤ x .parent) o a) (λ z. ne (ap (λ x. x .parent) o ∙ z))))
               (below-cases (subst (λ k. i < k) (length-snoc rows r) l));
           noted = appended-noted;
-          was = λ d l h.
-              let o = record-is all d .0 h in
-              ⊎-elim
-              (λ e. absurd (let z : r .doc ≡ d = ap (λ x. x .doc) (sym (ap (rowAt all) e ∙ snoc-new rows r)) ∙ o .2 in omega arith))
-              (λ m. record-is rows d .1 (o .0, m, ap (λ x. x .doc) (sym (snoc-old rows r (o .0) m)) ∙ o .2))
-              (below-cases (subst (λ k. o .0 < k) (length-snoc rows r) (o .1)));
+          was = from-append n rows r new;
           seen = λ d l h.
               let ne : d ≢ r .doc = λ q. omega arith in
               ap (λ x. visible x d) (append-at p rows r few) ∙ seen-append (flagsAt p rows) (marked (not (isStep all (length rows))) r) d ne;
@@ -170,10 +167,7 @@ module _ (Out : Type 0) (p n : ℕ) (rows : List Row) (few : p ≤ steps rows) (
               let c = came keep rows t up i l in
               subst (λ v. n ≤ v) (sym (c .4 .d)) (closed (c .0) (c .1) (subst (λ v. n ≤ v) (c .4 .p) x) (λ z. ne (c .4 .p ∙ z)));
           noted = kept-noted;
-          was = λ d l h.
-              let o = record-is (kept keep rows) d .0 h in
-              let c = came keep rows t up (o .0) (o .1) in
-              record-is rows d .1 (c .0, c .1, sym (c .4 .d) ∙ o .2);
+          was = from-kept n keep rows t up;
           seen = λ d l h. seen-by-kept d h;
           lost = lost;
         }

@@ -1,5 +1,6 @@
 -- What the demands say, in the customer's words and the paper's; `proofs` has each as a theorem. Read in this order.
 pub mod Record
+pub mod Windows
 pub mod Standing
 pub mod Past
 pub mod Refuses

@@ -7,10 +7,12 @@ use mathlib.Core.Path.{_≡_}
 use lib.ListN.{length, getD}
 use Rattle.rules.specs.Rows.{Row, none, docAt, parentAt, isShown, inRecord, place}
 use Rattle.rules.specs.Steps.{climbOf, visible}
-use Rattle.rules.specs.Words.{tableOf, rowsOf}
+use Rattle.rules.specs.Windows.{isRoot}
+use Rattle.rules.specs.Words.{rowsOf}
 use Rattle.rules.specs.Asks.{outlineOf}
-use Rattle.rules.specs.Calls.{Call, Answer, outcome}
+use Rattle.rules.specs.Calls.{Call, Answer, windowIn, outcome}
 use Rattle.demands.specs.Record.{Words32}
+use Rattle.demands.specs.Windows.{InWindow}
 
 -- "the number of parent links followed: from the document upwards, none if it isn't shown itself, and no link above the first hidden one": that from document d
 -- is 0 when d isn't shown, or is and has no parent; when d is shown and has a parent it is one more than that from its parent.
@@ -33,6 +35,6 @@ pub record LinksRightly (words : List ℕ) : Type 0 where
   pub links-are : (d n : ℕ) → So (inRecord (rowsOf words) d) → (climbOf (rowsOf words) d .links ≡ n) ↔ Followed (rowsOf words) d n
   -- "and is never more than the document's row place, counted from 0."
   pub links-bounded : (d : ℕ) → So (inRecord (rowsOf words) d) → climbOf (rowsOf words) d .links ≤ place (rowsOf words) d
-  -- Of a visible document it is the depth: the outline's pairs are the visible documents, each with its links.
-  pub links-depth : Words32 words → (d n : ℕ) →
-      PairIn (outlineOf (tableOf words)) n d ↔ (So (visible (rowsOf words) d) × (climbOf (rowsOf words) d .links ≡ n))
+  -- Of a visible document it is the depth: the pairs of a window's outline are its visible documents, each with its links.
+  pub links-depth : Words32 words → (r : ℕ) → So (isRoot (rowsOf words) r) → (d n : ℕ) →
+      PairIn (outlineOf (windowIn words r)) n d ↔ (InWindow words r d × So (visible (rowsOf words) d) × (climbOf (rowsOf words) d .links ≡ n))

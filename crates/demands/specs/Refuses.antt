@@ -9,16 +9,17 @@ use lib.Dec.{eqb}
 use lib.Ieee.{Float, nan, inf}
 use lib.IntN.{ℤ, pos, negsuc, _+ℤ_, natAbs}
 use lib.ListN.{length}
-use Rattle.rules.specs.Rows.{Row, none, docAt, frameAt, parentAt, isShown}
+use Rattle.rules.specs.Rows.{Row, none, docAt, frameAt, parentAt, isShown, place}
 use Rattle.rules.specs.Steps.{position, steps, visible}
+use Rattle.rules.specs.Windows.{rootAt}
 use Rattle.rules.specs.Moves.{cleared, changes}
 use Rattle.rules.specs.Words.{capacity, tableOf, rowsOf}
 use Rattle.rules.specs.Sound.{Sound}
 use Rattle.rules.specs.Asks.{takenList, upcomingList, ownList, outlineOf}
 use Rattle.rules.specs.Saved.{saved, loaded}
-use Rattle.rules.specs.OldSaved.{oldSaved, oldLoaded, S2rising}
+use Rattle.rules.specs.OldSaved.{oldSaved, oldLoaded, S2rising, S5alone}
 use Rattle.rules.specs.Places.{Place, scaled, entries, documentIn, kindIn, placeIn, placeOf}
-use Rattle.rules.specs.Calls.{Call, Answer, lentTo, outcome}
+use Rattle.rules.specs.Calls.{Call, Answer, lentTo, windowIn, outcome}
 
 -- "1: record under 7 words"
 abbrev pub Short : List ℕ → Type 0
@@ -37,12 +38,12 @@ abbrev pub NotSaved : List ℕ → Type 0
 NotSaved bytes = SavedBySome bytes → ⊥
 
 -- "The old form has its own loading call, which accepts exactly what it accepted": what Save wrote then, for some record that was sound then, with documents
--- that rise by row.
+-- that rise by row and one root frame.
 abbrev pub Rises : List ℕ → Type 0
 Rises words = S2rising (rowsOf words) (tableOf words .nextDoc)
 
 abbrev pub SavedThen : List ℕ → Type 0
-SavedThen bytes = (words : List ℕ) × Sound words × Rises words × (oldSaved (tableOf words) ≡ bytes)
+SavedThen bytes = (words : List ℕ) × Sound words × Rises words × S5alone (rowsOf words) × (oldSaved (tableOf words) ≡ bytes)
 
 abbrev pub NotSavedThen : List ℕ → Type 0
 NotSavedThen bytes = SavedThen bytes → ⊥
@@ -71,8 +72,8 @@ abbrev pub Outside : ℕ → ℤ → Type 0
 Outside n (pos q) = n < q
 Outside n (negsuc q) = Unit {0}
 
-abbrev pub Beyond : List ℕ → ℤ → Type 0
-Beyond words δ = Outside (steps (rowsOf words)) (pos (position (rowsOf words)) +ℤ δ)
+abbrev pub Beyond : List Row → ℤ → Type 0
+Beyond rows δ = Outside (steps rows) (pos (position rows) +ℤ δ)
 
 -- "Stretch: list shorter than the magnitude of δ"
 abbrev pub TooFar : List ℕ → List ℕ → ℤ → Type 0
@@ -101,6 +102,10 @@ NoFrame words f = (i : ℕ) → RowOf words f i → ⊥
 -- "10 for the root frame": its rows are without a parent.
 abbrev pub RootFrame : List ℕ → ℕ → Type 0
 RootFrame words f = (i : ℕ) × RowOf words f i × (parentAt (rowsOf words) i ≡ none)
+
+-- "13 when no root frame has that number" (document 02, L10): no row of that frame is without a parent.
+abbrev pub NoRoot : List ℕ → ℕ → Type 0
+NoRoot words r = (i : ℕ) → RowOf words r i → parentAt (rowsOf words) i ≡ none → ⊥
 
 -- "5 when its parent isn't visible"
 abbrev pub ParentHidden : List ℕ → ℕ → Type 0
@@ -165,22 +170,26 @@ lines (Call.Open words parent) =
     ∷ 7 if Full words (rowsOf words) ∷ 8 if (UsedUp (tableOf words .nextDoc) ⊎ UsedUp (tableOf words .nextFrame)) ∷ []
 lines (Call.Navigate words from) =
     1 if Short words ∷ 2 if Unsound words ∷ 4 if Absent words from ∷ 5 if Hidden words from carrying Nearest (rowsOf words) from
-    ∷ 7 if Full words (cleared (rowsOf words)) ∷ 8 if UsedUp (tableOf words .nextDoc) ∷ []
-lines (Call.Traverse words δ room) = 1 if Short words ∷ 2 if Unsound words ∷ 6 if Beyond words δ ∷ 9 if TooShort room (changes (tableOf words) δ) ∷ []
+    ∷ 7 if Full words (cleared (rootAt (rowsOf words) (place (rowsOf words) from)) (rowsOf words)) ∷ 8 if UsedUp (tableOf words .nextDoc) ∷ []
+lines (Call.Traverse words root δ room) =
+    1 if Short words ∷ 2 if Unsound words ∷ 13 if NoRoot words root ∷ 6 if Beyond (windowIn words root .rows) δ ∷ 9 if TooShort room (changes (windowIn words root) δ) ∷ []
 lines (Call.Drop words frame) =
     1 if Short words ∷ 2 if Unsound words ∷ 4 if NoFrame words frame
     ∷ 10 if RootFrame words frame ∷ 5 if ParentHidden words frame carrying ParentNearest words frame ∷ []
 lines (Call.Replace words d) =
     1 if Short words ∷ 2 if Unsound words ∷ 4 if Absent words d ∷ 5 if Hidden words d carrying Nearest (rowsOf words) d
     ∷ 8 if UsedUp (tableOf words .nextDoc) ∷ []
-lines (Call.Position words) = 1 if Short words ∷ 2 if Unsound words ∷ []
+lines (Call.Tab words) =
+    1 if Short words ∷ 2 if Unsound words ∷ 7 if Full words (rowsOf words) ∷ 8 if (UsedUp (tableOf words .nextDoc) ⊎ UsedUp (tableOf words .nextFrame)) ∷ []
+lines (Call.Position words root) = 1 if Short words ∷ 2 if Unsound words ∷ 13 if NoRoot words root ∷ []
 lines (Call.Visible words d) = 1 if Short words ∷ 2 if Unsound words ∷ 4 if Absent words d ∷ []
-lines (Call.Lists words takens upcomings) =
-    1 if Short words ∷ 2 if Unsound words
-    ∷ 9 if (TooShort takens (takenList (rowsOf words)) ⊎ TooShort upcomings (upcomingList (rowsOf words))) ∷ []
+lines (Call.Lists words root takens upcomings) =
+    1 if Short words ∷ 2 if Unsound words ∷ 13 if NoRoot words root
+    ∷ 9 if (TooShort takens (takenList (windowIn words root .rows)) ⊎ TooShort upcomings (upcomingList (windowIn words root .rows))) ∷ []
 lines (Call.Stretch takens upcomings δ) = []
 lines (Call.StretchCount takens upcomings δ) = 6 if TooFar takens upcomings δ ∷ []
-lines (Call.Outline words room) = 1 if Short words ∷ 2 if Unsound words ∷ 9 if TooShort room (outlineOf (tableOf words)) ∷ []
+lines (Call.Outline words root room) =
+    1 if Short words ∷ 2 if Unsound words ∷ 13 if NoRoot words root ∷ 9 if TooShort room (outlineOf (windowIn words root)) ∷ []
 lines (Call.Save words room) = 1 if Short words ∷ 2 if Unsound words ∷ 9 if TooShort room (saved (tableOf words)) ∷ []
 lines (Call.Load words bytes) = 1 if Short words ∷ 3 if NotSaved bytes ∷ 7 if (capacity words < length (loaded bytes .rows)) ∷ []
 lines (Call.LoadOld words bytes) = 1 if Short words ∷ 3 if NotSavedThen bytes ∷ 7 if (capacity words < length (oldLoaded bytes .rows)) ∷ []
@@ -193,7 +202,7 @@ lines (Call.AskAtZoom words places d zoom) =
 
 -- The numbers that the table has.
 abbrev pub numbers : List ℕ
-numbers = 1 ∷ 2 ∷ 3 ∷ 4 ∷ 5 ∷ 6 ∷ 7 ∷ 8 ∷ 9 ∷ 10 ∷ 11 ∷ 12 ∷ 15 ∷ []
+numbers = 1 ∷ 2 ∷ 3 ∷ 4 ∷ 5 ∷ 6 ∷ 7 ∷ 8 ∷ 9 ∷ 10 ∷ 11 ∷ 12 ∷ 13 ∷ 15 ∷ []
 
 -- k is one of these numbers.
 abbrev pub among : ℕ → List ℕ → Bool
@@ -226,20 +235,21 @@ HoldsIn k (l ∷ rest) = ((l .number ≡ k) × l .condition) ⊎ HoldsIn k rest
 abbrev pub Applies : ℕ → Call → Type 0
 Applies k c = HoldsIn k (lines c)
 
--- The document that a call is of.
+-- The document that has the order of a call's lines: of calls that name a window, the second.
 abbrev pub paper : Call → ℕ
 paper (Call.Fresh words) = 1
 paper (Call.Open words parent) = 1
 paper (Call.Navigate words from) = 1
-paper (Call.Traverse words δ room) = 1
+paper (Call.Traverse words root δ room) = 2
 paper (Call.Drop words frame) = 2
 paper (Call.Replace words d) = 2
-paper (Call.Position words) = 1
+paper (Call.Tab words) = 2
+paper (Call.Position words root) = 2
 paper (Call.Visible words d) = 1
-paper (Call.Lists words takens upcomings) = 1
+paper (Call.Lists words root takens upcomings) = 2
 paper (Call.Stretch takens upcomings δ) = 1
 paper (Call.StretchCount takens upcomings δ) = 1
-paper (Call.Outline words room) = 1
+paper (Call.Outline words root room) = 2
 paper (Call.Save words room) = 1
 paper (Call.Load words bytes) = 1
 paper (Call.LoadOld words bytes) = 1

@@ -6,7 +6,7 @@ use mathlib.Core.Path.{_≡_}
 use lib.ListN.{length}
 use Rattle.rules.specs.Words.{put, capacity, tableOf, rowsOf}
 use Rattle.rules.specs.Sound.{Sound}
-use Rattle.rules.specs.OldSaved.{oldSaved}
+use Rattle.rules.specs.OldSaved.{oldSaved, S5alone}
 use Rattle.rules.specs.Calls.{Call, Answer, _leaving_, outcome}
 use Rattle.rules.specs.Runs.{Move, run}
 use Rattle.demands.specs.Record.{Words32, Bytes, Accepted}
@@ -31,13 +31,14 @@ pub record UndoEachOther : Type 0 where
   -- All other bytes, and only they, are refused by 3, if the record is not under 7 words.
   pub refuses-others : (words bytes : List ℕ) → 7 ≤ length words → (outcome (Call.Load words bytes) .answer ≡ Answer.refuses 3 []) ↔ NotSaved bytes
 
--- "The old form has its own loading call, which accepts exactly what it accepted."
+-- "The old form has its own loading call, which accepts exactly what it accepted"; "old-form loading [follows] the narrow" S5 (document 02, L10).
 pub record TakesOld : Type 0 where
   -- What Save wrote then for a record that was sound then, it takes into any record with room for the rows, and the table is the same again.
-  pub takes : (words other : List ℕ) → Sound words → Rises words → length (rowsOf words) ≤ capacity other →
+  pub takes : (words other : List ℕ) → Sound words → Rises words → S5alone (rowsOf words) → length (rowsOf words) ≤ capacity other →
       Accepted (Call.LoadOld other (oldSaved (tableOf words))) × (tableOf (left (Call.LoadOld other (oldSaved (tableOf words)))) ≡ tableOf words)
   -- It takes nothing else: the record that it leaves was sound then, and the bytes are those that Save wrote for it then.
   pub only : (words bytes : List ℕ) → Accepted (Call.LoadOld words bytes) →
-      Sound (left (Call.LoadOld words bytes)) × Rises (left (Call.LoadOld words bytes)) × (oldSaved (tableOf (left (Call.LoadOld words bytes))) ≡ bytes)
+      Sound (left (Call.LoadOld words bytes)) × Rises (left (Call.LoadOld words bytes)) × S5alone (rowsOf (left (Call.LoadOld words bytes)))
+      × (oldSaved (tableOf (left (Call.LoadOld words bytes))) ≡ bytes)
   -- All other bytes, and only they, are refused by 3, if the record is not under 7 words.
   pub refuses : (words bytes : List ℕ) → 7 ≤ length words → (outcome (Call.LoadOld words bytes) .answer ≡ Answer.refuses 3 []) ↔ NotSavedThen bytes

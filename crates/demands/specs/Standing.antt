@@ -21,5 +21,5 @@ pub record Standing : Type 0 where
   -- "Load fills a record [..] from bytes that Save would write for some sound record"
   pub load : (words bytes : List ℕ) → Words32 words → Bytes bytes → Accepted (Call.Load words bytes) → Stands (left (Call.Load words bytes))
   pub load-old : (words bytes : List ℕ) → Words32 words → Bytes bytes → Accepted (Call.LoadOld words bytes) → Stands (left (Call.LoadOld words bytes))
-  -- Open, Navigate, Traverse, Drop and Replace, refused ones among them.
+  -- Open, Navigate, Traverse, Drop, Replace and Tab, refused ones among them.
   pub move : (words : List ℕ) → Stands words → (m : Move) → Stands (after words m)

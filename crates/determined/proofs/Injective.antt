@@ -9,7 +9,7 @@ use lib.Ieee.{binary64, ofBits}
 use lib.Ieee.Bits.{ofBits-toBits}
 use lib.ListN.{getD}
 use Rattle.base.specs.declared.Refusal.{Refusal}
-use Rattle.base.specs.declared.Refusal.the-variants.{ShortRecord, Unsound, NotSaved, Absent, Hidden, Beyond, Full, UsedUp, ShortBuffer, RootFrame, NotFinite, NoEntry, BadPlaces}
+use Rattle.base.specs.declared.Refusal.the-variants.{ShortRecord, Unsound, NotSaved, Absent, Hidden, Beyond, Full, UsedUp, ShortBuffer, RootFrame, NotFinite, NoEntry, NoRoot, BadPlaces}
 use Rattle.base.specs.Numbers.{numberOf, carriedBy}
 use Rattle.rules.specs.Calls.{Answer}
 use Rattle.moves.specs.declared.Freshened.the-variants as Freshens
@@ -23,11 +23,12 @@ use Rattle.replaces.specs.declared.Replaced.the-variants as Replaceds
 use Rattle.replaces.specs.Answers.{replacedIs}
 use Rattle.traverses.specs.declared.Traversed.the-variants as Traverseds
 use Rattle.traverses.specs.Answers.{traversedIs}
-use Rattle.asks.specs.declared.Standing.the-variants as Standings
+use Rattle.lists.specs.declared.Standing.the-variants as Standings
+use Rattle.lists.specs.declared.Listed.the-variants as Lists
+use Rattle.lists.specs.Answers.{standingIs, listedIs}
 use Rattle.asks.specs.declared.Sight.the-variants as Sights
 use Rattle.asks.specs.declared.Stretched.the-variants as Stretches
-use Rattle.asks.specs.declared.Listed.the-variants as Lists
-use Rattle.asks.specs.Answers.{standingIs, sightIs, listedIs, stretchIs}
+use Rattle.asks.specs.Answers.{sightIs, stretchIs}
 use Rattle.outlines.specs.declared.Outlined.the-variants as Outlines
 use Rattle.outlines.specs.Answers.{outlinedIs}
 use Rattle.saved.specs.declared.Saving.the-variants as Savings
@@ -50,7 +51,7 @@ use Rattle.determined.specs.Determined.{OfDoubles}
 -- The refusal that a number is given for, with what it carries.
 refusalBy : ℕ → List ℕ → Refusal
 refusalBy k carried =
-    getD (ShortRecord ∷ ShortRecord ∷ Unsound ∷ NotSaved ∷ Absent ∷ Hidden (record { 0 = getD carried 0 0 }) ∷ Beyond ∷ Full ∷ UsedUp ∷ ShortBuffer ∷ RootFrame ∷ NotFinite ∷ NoEntry ∷ ShortRecord ∷ ShortRecord ∷ BadPlaces ∷ []) k ShortRecord
+    getD (ShortRecord ∷ ShortRecord ∷ Unsound ∷ NotSaved ∷ Absent ∷ Hidden (record { 0 = getD carried 0 0 }) ∷ Beyond ∷ Full ∷ UsedUp ∷ ShortBuffer ∷ RootFrame ∷ NotFinite ∷ NoEntry ∷ NoRoot ∷ ShortRecord ∷ BadPlaces ∷ []) k ShortRecord
 
 -- It is the refusal that has the number and carries that: no two have both.
 refusal-back : (r : Refusal) → refusalBy (numberOf r) (carriedBy r) ≡ r
@@ -67,6 +68,7 @@ refusal-back ShortBuffer = refl
 refusal-back RootFrame = refl
 refusal-back NotFinite = refl
 refusal-back NoEntry = refl
+refusal-back NoRoot = refl
 refusal-back BadPlaces = refl
 
 module _ {A : Type 0} where
@@ -161,6 +163,7 @@ placed-same r q a b e = sym (placed-back r a) ∙ ap (resultBy placeBy Placeds.R
 -- The reply that is printed so; no two are printed alike.
 replyBy : Said → Reply
 replyBy (Said.ok v p s) = Replies.Ok v p s
+replyBy (Said.tabbed d f p s) = Replies.Tab (record { 0 = d }) (record { 0 = f }) p s
 replyBy (Said.denied k carried p s) = Replies.No (refusalBy k carried) p s
 replyBy Said.bad = Replies.Bad
 
@@ -168,19 +171,20 @@ pub reply-injective : Injective replyIs
 unfolding replyBy
 reply-injective =
     LeftInverse·injective replyBy replyIs
-    λ r. elim r [ Replies.Ok v p s ↦ refl | Replies.No k p s ↦ ap (λ x. Replies.No x p s) (refusal-back k) | Replies.Bad ↦ refl ]
+    λ r. elim r [ Replies.Ok v p s ↦ refl | Replies.Tab d f p s ↦ refl | Replies.No k p s ↦ ap (λ x. Replies.No x p s) (refusal-back k) | Replies.Bad ↦ refl ]
 
 -- The command that asks this; no two ask the same.
 readBy : Command → Read
 readBy (Command.opens d) = Reads.Open (record { 0 = d })
 readBy (Command.navs d) = Reads.Nav (record { 0 = d })
-readBy (Command.goes δ) = Reads.Go δ
+readBy (Command.goes r δ) = Reads.Go (record { 0 = r }) δ
 readBy (Command.drops f) = Reads.Drop (record { 0 = f })
 readBy (Command.replaces d) = Reads.Replace (record { 0 = d })
+readBy Command.tabs = Reads.Tab
 readBy Command.bad = Reads.Bad
 
 pub command-injective : Injective commandIs
 unfolding readBy
 command-injective =
     LeftInverse·injective readBy commandIs
-    λ r. elim r [ Reads.Open d ↦ refl | Reads.Nav d ↦ refl | Reads.Go δ ↦ refl | Reads.Drop f ↦ refl | Reads.Replace d ↦ refl | Reads.Bad ↦ refl ]
+    λ r. elim r [ Reads.Open d ↦ refl | Reads.Nav d ↦ refl | Reads.Go r δ ↦ refl | Reads.Drop f ↦ refl | Reads.Replace d ↦ refl | Reads.Tab ↦ refl | Reads.Bad ↦ refl ]

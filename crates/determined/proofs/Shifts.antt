@@ -1,19 +1,25 @@
 -- What the promise of `shift` determines: the answer, the record, and the words of the change rows. Assumes nothing.
-use Prim.Native.Nat.{ℕ, _+_, _*_, _/_, _≤_}
+use Prim.Native.Nat.{ℕ, _+_, _*_, _≤_}
 use native.Mathlib.Omega.{arith}
-use mathlib.Core.List.{List, [], _∷_}
+use mathlib.Core.Bool.{So}
+use mathlib.Core.List.{List, []}
 use mathlib.Core.Path.{_≡_, refl, ap, sym, _∙_}
 use lib.IntN.{ℤ}
 use lib.ListN.{length, getD, replicate, length-replicate}
 use lib.Seq.{ext-getD}
-use Rattle.rules.specs.Words.{put}
-use Rattle.rules.specs.Calls.{Call, outcome}
+use borrow.Author.Tests.{eq-eqb}
+use Rattle.rules.specs.Rows.{frameAt}
+use Rattle.rules.specs.Windows.{isRoot}
+use Rattle.rules.specs.Words.{put, rowsOf}
 use Rattle.laws.proofs.Writes.{get-put-in}
+use Rattle.sound.specs.declared.Stand.{Stand}
+use Rattle.sound.specs.Survey.{Located}
+use Rattle.extracts.proofs.Heads.{only-root}
 use Rattle.traverses.specs.declared.Traversed.{Traversed}
 use Rattle.traverses.specs.declared.Traversed.the-variants.{Changes, Refused}
 use Rattle.traverses.specs.declared.Shifted.{Shifted}
 use Rattle.traverses.specs.declared.Shifted.the-variants.{Went, Stayed}
-use Rattle.traverses.specs.Answers.{traversedIs, answerOf, tripOf, tripText, Shifts}
+use Rattle.traverses.specs.Answers.{answerOf, tripOf, tripText, Shifts}
 use Rattle.determined.proofs.Injective.{traversed-injective}
 
 -- Texts of one length that make the same of a run are the same.
@@ -31,13 +37,15 @@ unfolding rowsIn
 count-told (Went t) = refl
 count-told (Stayed r) = refl
 
--- Shifts of one record by one amount, with room for as many change rows: both say what Traverse leaves in a run of that room.
-pub shift-alike : (words : List ℕ) (δ : ℤ) (room : ℕ) (s q : Shifted) (new new' : List ℕ) → Shifts words δ room s new → Shifts words δ room q new' →
+-- Shifts of one record of one window by one amount, with room for as many change rows: both say what Traverse leaves in a run of that room.
+pub shift-alike : (words : List ℕ) (stand : Stand) → Located words stand → (δ : ℤ) (room : ℕ) (s q : Shifted) (new new' : List ℕ) → Shifts words δ room s new → Shifts words δ room q new' →
     (answerOf s ≡ answerOf q) × (new ≡ new') × (tripText new (tripOf s) ≡ tripText new' (tripOf q))
-shift-alike words δ room s q new new' h k =
+shift-alike words stand at δ room s q new new' h k =
+    let f = frameAt (rowsOf words) 0 in
+    let root : So (isRoot (rowsOf words) f) = sym (only-root words stand at f) ∙ eq-eqb f f refl in
     let blank : List ℕ = replicate (4 * room) 0 in
     let l : length blank ≡ 4 * room = length-replicate (4 * room) 0 in
-    let g = sym (h .outcome-is blank (omega arith)) ∙ k .outcome-is blank (omega arith) in
+    let g = sym (h .outcome-is f root blank (omega arith)) ∙ k .outcome-is f root blank (omega arith) in
     let a = traversed-injective (answerOf s) (answerOf q) (ap (λ o. o .answer) g) in
     let n : tripOf s .count ≡ tripOf q .count = count-told s ∙ ap rowsIn a ∙ sym (count-told q) in (
       a,

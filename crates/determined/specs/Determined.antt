@@ -7,6 +7,8 @@ use lib.Ieee.{Float}
 use Rattle.rules.specs.Asks.{stretched}
 use Rattle.rules.specs.Places.{Place, Doubles}
 use Rattle.rules.specs.Calls.{Call, Answer, outcome}
+use Rattle.sound.specs.declared.Stand.{Stand}
+use Rattle.sound.specs.Survey.{Located}
 use Rattle.moves.specs.Answers.{freshIs, openedIs}
 use Rattle.navigates.specs.Answers.{navigatedIs}
 use Rattle.drops.specs.Answers.{droppedIs}
@@ -16,7 +18,8 @@ use Rattle.traverses.specs.declared.Shifted.{Shifted}
 use Rattle.traverses.specs.Answers.{traversedIs, answerOf, tripOf, tripText, Shifts}
 use Rattle.changes.specs.declared.ChangeRow.{ChangeRow}
 use Rattle.changes.specs.Changes.{plain}
-use Rattle.asks.specs.Answers.{standingIs, sightIs, listedIs, stretchIs}
+use Rattle.lists.specs.Answers.{standingIs, listedIs}
+use Rattle.asks.specs.Answers.{sightIs, stretchIs}
 use Rattle.outlines.specs.Answers.{outlinedIs}
 use Rattle.saved.specs.Answers.{savingIs}
 use Rattle.told.specs.Answers.{loadingIs}
@@ -54,12 +57,13 @@ pub record Determined : Type 0 where
   pub navigate : (words : List ℕ) (from : ℕ) → OneResult navigatedIs (Call.Navigate words from)
   pub drop-frame : (words : List ℕ) (frame : ℕ) → OneResult droppedIs (Call.Drop words frame)
   pub replace : (words : List ℕ) (d : ℕ) → OneResult replacedIs (Call.Replace words d)
-  pub traverse : (words : List ℕ) (δ : ℤ) (room : List ℕ) → OneResult traversedIs (Call.Traverse words δ room)
-  pub position : (words : List ℕ) → OneResult standingIs (Call.Position words)
+  pub open-window : (words : List ℕ) → OneResult openedIs (Call.Tab words)
+  pub traverse : (words : List ℕ) (root : ℕ) (δ : ℤ) (room : List ℕ) → OneResult traversedIs (Call.Traverse words root δ room)
+  pub position : (words : List ℕ) (root : ℕ) → OneResult standingIs (Call.Position words root)
   pub visible : (words : List ℕ) (d : ℕ) → OneResult sightIs (Call.Visible words d)
-  pub lists : (words takens upcomings : List ℕ) → OneResult listedIs (Call.Lists words takens upcomings)
+  pub lists : (words : List ℕ) (root : ℕ) (takens upcomings : List ℕ) → OneResult listedIs (Call.Lists words root takens upcomings)
   pub stretch-count : (takens upcomings : List ℕ) (δ : ℤ) → OneResult stretchIs (Call.StretchCount takens upcomings δ)
-  pub outline : (words room : List ℕ) → OneResult outlinedIs (Call.Outline words room)
+  pub outline : (words : List ℕ) (root : ℕ) (room : List ℕ) → OneResult outlinedIs (Call.Outline words root room)
   pub save : (words room : List ℕ) → OneResult savingIs (Call.Save words room)
   pub load : (words bytes : List ℕ) → OneResult loadingIs (Call.Load words bytes)
   pub load-old : (words bytes : List ℕ) → OneResult loadingIs (Call.LoadOld words bytes)
@@ -69,11 +73,12 @@ pub record Determined : Type 0 where
   -- The part that Stretch gives back.
   pub stretch : (takens upcomings : List ℕ) (δ : ℤ) → AtMostOne (List ℕ) λ part. part ≡ stretched takens upcomings δ
   -- Traverse with change rows as structs: the answer, the record and the rows.
-  pub traverse-rows : (words : List ℕ) (δ : ℤ) (rows : List ChangeRow) →
+  pub traverse-rows : (words : List ℕ) (root : ℕ) (δ : ℤ) (rows : List ChangeRow) →
       AtMostOne (Traversed × List ℕ × List ChangeRow) λ (r, words', rows').
-      outcome (Call.Traverse words δ (plain rows)) ≡ record { answer = traversedIs r; lent = words' ∷ plain rows' ∷ [] }
-  -- The same but for the writing of change rows: the answer, the record and the words of the change rows, whatever places they are read between.
-  pub shift : (words : List ℕ) (δ : ℤ) (room : ℕ) →
+      outcome (Call.Traverse words root δ (plain rows)) ≡ record { answer = traversedIs r; lent = words' ∷ plain rows' ∷ [] }
+  -- The same but for the writing of change rows, in a record of one window: the answer, the record and the words of the change rows, whatever places they are
+  -- read between.
+  pub shift-sound : (words : List ℕ) (stand : Stand) (δ : ℤ) (room : ℕ) → Located words stand →
       AtMostOne (Traversed × List ℕ × List ℕ) λ (r, words', text).
       (s : Shifted) × Shifts words δ room s words' × (answerOf s ≡ r) × (tripText words' (tripOf s) ≡ text)
   -- A line of a script: the reply, the record and the change words; and what a line asks.
@@ -90,6 +95,6 @@ pub record Determined : Type 0 where
   pub host-hiding : (c : Call) (olds : List ℕ) (old : ℕ) →
       AtMostOne (ℕ × List ℕ × List (List ℕ) × ℕ) λ (n, outs, runs, new).
       hidingFace (outcome c) olds old ≡ record { seen = record { number = n; outs = outs; lent = runs }; hiding = new }
-  pub host-rows : (words : List ℕ) (δ : ℤ) (rows : List ChangeRow) (olds : List ℕ) →
+  pub host-rows : (words : List ℕ) (root : ℕ) (δ : ℤ) (rows : List ChangeRow) (olds : List ℕ) →
       AtMostOne (ℕ × List ℕ × List ℕ × List ChangeRow) λ (n, outs, words', rows').
-      face (outcome (Call.Traverse words δ (plain rows))) olds ≡ record { number = n; outs = outs; lent = words' ∷ plain rows' ∷ [] }
+      face (outcome (Call.Traverse words root δ (plain rows))) olds ≡ record { number = n; outs = outs; lent = words' ∷ plain rows' ∷ [] }

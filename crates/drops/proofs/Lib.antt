@@ -1,3 +1,1 @@
 pub mod Judges
-pub mod Gaps
-pub mod Ended

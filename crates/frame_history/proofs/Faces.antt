@@ -17,7 +17,7 @@ use Rattle.places.specs.declared.Placed.the-variants.{Stands, Refused}
 use Rattle.places.specs.declared.Setting.{Setting}
 use Rattle.places.specs.declared.Setting.the-variants as Settings
 use Rattle.places.specs.Answers.{placedIs, settingIs}
-use Rattle.frame_history.specs.Face.{shown, face, carriedOr, hidingIn, HidingFace, hidingFace, faceOver, Told, ToldSetting, placeOuts, ToldPlace}
+use Rattle.frame_history.specs.Face.{shown, face, carriedOr, hidingIn, hidingFace, faceOver, Told, ToldSetting, placeOuts, ToldPlace}
 
 module _ (c : Call) (a : Answer) (runs : List (List ℕ)) (olds : List ℕ) (e : outcome c ≡ record { answer = a; lent = runs }) where
   -- Values are given: the host sees 0 and them.

@@ -1,8 +1,6 @@
 // What a host calls: each call answers 0 or the refusal's number, and its values through out words, which keep what they hold on refusal. What refusal 5
 // carries is told through an out word of its own, the only one that a refusal writes.
-use asks::Listed;
 use asks::Sight;
-use asks::Standing;
 use asks::Stretched;
 use base::Carried;
 use base::DocNo;
@@ -10,6 +8,8 @@ use base::FrameNo;
 use base::Refusal;
 use changes::ChangeRow;
 use drops::Dropped;
+use lists::Listed;
+use lists::Standing;
 use moves::Freshened;
 use moves::Opened;
 use navigates::Navigated;
@@ -79,6 +79,22 @@ pub extern "C" fn frame_history_open(
             0
         }
         Opened::Refused(r) => refused(r, hiding),
+    }
+}
+
+// Opens a window: the numbers of its document and its root frame.
+#[no_mangle]
+pub extern "C" fn frame_history_tab(words: &mut [u32], document: &mut u32, frame: &mut u32) -> u32
+    ensures { λ r. ⌜ face (outcome (Call.Tab (now (words .entry)))) (now (document .entry) ∷ now (frame .entry) ∷ [])
+        ≡ record { number = r; outs = now (document .exit) ∷ now (frame .exit) ∷ []; lent = now (words .exit) ∷ [] } ⌝ }
+{
+    match moves::open_window(words) {
+        Opened::Numbers(first, root) => {
+            *document = first.0;
+            *frame = root.0;
+            0
+        }
+        Opened::Refused(r) => base::refusal_number(r),
     }
 }
 
@@ -156,48 +172,51 @@ fn told(answer: Traversed, count: &mut u32) -> u32
     }
 }
 
-// Traverses by a signed amount: how many change rows are written, of four words each.
+// Traverses a window by a signed amount: how many change rows are written, of four words each.
 #[no_mangle]
 pub extern "C" fn frame_history_traverse(
     words: &mut [u32],
+    root: u32,
     delta: i32,
     changes: &mut [u32],
     count: &mut u32,
 ) -> u32
-    ensures { λ r. ⌜ face (outcome (Call.Traverse (now (words .entry)) delta (now (changes .entry)))) (now (count .entry) ∷ [])
+    ensures { λ r. ⌜ face (outcome (Call.Traverse (now (words .entry)) root delta (now (changes .entry)))) (now (count .entry) ∷ [])
         ≡ record { number = r; outs = now (count .exit) ∷ []; lent = now (words .exit) ∷ now (changes .exit) ∷ [] } ⌝ }
 {
-    let answer = traverses::traverse(words, delta, changes);
+    let answer = traverses::traverse(words, FrameNo(root), delta, changes);
     told(answer, count)
 }
 
-// Traverses by a signed amount: how many change rows are written, into rows lent as structs.
+// Traverses a window by a signed amount: how many change rows are written, into rows lent as structs.
 #[no_mangle]
 pub extern "C" fn frame_history_traverse_rows(
     words: &mut [u32],
+    root: u32,
     delta: i32,
     rows: &mut [ChangeRow],
     count: &mut u32,
 ) -> u32
-    ensures { λ r. ⌜ face (outcome (Call.Traverse (now (words .entry)) delta (plain (now (rows .entry))))) (now (count .entry) ∷ [])
+    ensures { λ r. ⌜ face (outcome (Call.Traverse (now (words .entry)) root delta (plain (now (rows .entry))))) (now (count .entry) ∷ [])
         ≡ record { number = r; outs = now (count .exit) ∷ []; lent = now (words .exit) ∷ plain (now (rows .exit)) ∷ [] } ⌝ }
 {
-    let answer = changes::traverse(words, delta, rows);
+    let answer = changes::traverse(words, FrameNo(root), delta, rows);
     told(answer, count)
 }
 
-// Position, steps, and the length for scripts.
+// Position and steps of a window, and the length for scripts.
 #[no_mangle]
 pub extern "C" fn frame_history_position(
     words: &[u32],
+    root: u32,
     position: &mut u32,
     steps: &mut u32,
     length: &mut u32,
 ) -> u32
-    ensures { λ r. ⌜ face (outcome (Call.Position (now (words .entry)))) (now (position .entry) ∷ now (steps .entry) ∷ now (length .entry) ∷ [])
+    ensures { λ r. ⌜ face (outcome (Call.Position (now (words .entry)) root)) (now (position .entry) ∷ now (steps .entry) ∷ now (length .entry) ∷ [])
         ≡ record { number = r; outs = now (position .exit) ∷ now (steps .exit) ∷ now (length .exit) ∷ []; lent = [] } ⌝ }
 {
-    match asks::position(words) {
+    match lists::position(words, FrameNo(root)) {
         Standing::At(p, s, l) => {
             *position = p as u32;
             *steps = s as u32;
@@ -237,19 +256,20 @@ pub extern "C" fn frame_history_visible(
     }
 }
 
-// Taken steps, latest first, and upcoming steps, earliest first: how many of each are written.
+// Taken steps of a window, latest first, and upcoming ones, earliest first: how many of each are written.
 #[no_mangle]
 pub extern "C" fn frame_history_lists(
     words: &[u32],
+    root: u32,
     taken: &mut [u32],
     upcoming: &mut [u32],
     takens: &mut u32,
     upcomings: &mut u32,
 ) -> u32
-    ensures { λ r. ⌜ face (outcome (Call.Lists (now (words .entry)) (now (taken .entry)) (now (upcoming .entry)))) (now (takens .entry) ∷ now (upcomings .entry) ∷ [])
+    ensures { λ r. ⌜ face (outcome (Call.Lists (now (words .entry)) root (now (taken .entry)) (now (upcoming .entry)))) (now (takens .entry) ∷ now (upcomings .entry) ∷ [])
         ≡ record { number = r; outs = now (takens .exit) ∷ now (upcomings .exit) ∷ []; lent = now (taken .exit) ∷ now (upcoming .exit) ∷ [] } ⌝ }
 {
-    match asks::lists(words, taken, upcoming) {
+    match lists::lists(words, FrameNo(root), taken, upcoming) {
         Listed::Counts(t, u) => {
             *takens = t as u32;
             *upcomings = u as u32;
@@ -279,13 +299,18 @@ pub extern "C" fn frame_history_stretch<'a>(
     }
 }
 
-// The visible documents with their depths: how many pairs are written, of two words each.
+// The visible documents of a window with their depths: how many pairs are written, of two words each.
 #[no_mangle]
-pub extern "C" fn frame_history_outline(words: &[u32], pairs: &mut [u32], count: &mut u32) -> u32
-    ensures { λ r. ⌜ face (outcome (Call.Outline (now (words .entry)) (now (pairs .entry)))) (now (count .entry) ∷ [])
+pub extern "C" fn frame_history_outline(
+    words: &[u32],
+    root: u32,
+    pairs: &mut [u32],
+    count: &mut u32,
+) -> u32
+    ensures { λ r. ⌜ face (outcome (Call.Outline (now (words .entry)) root (now (pairs .entry)))) (now (count .entry) ∷ [])
         ≡ record { number = r; outs = now (count .exit) ∷ []; lent = now (pairs .exit) ∷ [] } ⌝ }
 {
-    match outlines::outline(words, pairs) {
+    match outlines::outline(words, FrameNo(root), pairs) {
         Outlined::Pairs(n) => {
             *count = n as u32;
             0

@@ -6,8 +6,9 @@ use mathlib.Core.Bool.{Bool, true, false, _||_, So}
 use mathlib.Core.Path.{_≡_, refl}
 use lib.ListN.{length}
 use borrow.Author.Tests.{ltb-false, leb-false, eqb-false, not-false}
-use Rattle.rules.specs.Rows.{none, inRecord, isFrame}
+use Rattle.rules.specs.Rows.{none, inRecord, place, isFrame}
 use Rattle.rules.specs.Steps.{visible}
+use Rattle.rules.specs.Windows.{rootAt}
 use Rattle.rules.specs.Moves.{cleared}
 use Rattle.rules.specs.Words.{capacity, tableOf, rowsOf}
 use Rattle.rules.specs.Sound.{Sound}
@@ -42,11 +43,31 @@ open-relies words p h =
       frame = eqb-false _ _ (f .1);
     }
 
+-- A window.
+pub record Tabs (words : List ℕ) : Type 0 where
+  pub long : 7 ≤ length words
+  pub sound : Sound words
+  pub roomy : length (rowsOf words) < capacity words
+  pub doc : tableOf words .nextDoc ≢ none
+  pub frame : tableOf words .nextFrame ≢ none
+
+pub tab-relies : (words : List ℕ) → NoneGiven (refusals (Call.Tab words)) → Tabs words
+unfolding refusals NoneGiven
+tab-relies words h =
+    let f = either _ _ (h .1 .1 .1 .0) in
+    record {
+      long = ltb-false _ _ (h .0);
+      sound = sound-is words .0 (not-false _ (h .1 .0));
+      roomy = leb-false _ _ (h .1 .1 .0);
+      doc = eqb-false _ _ (f .0);
+      frame = eqb-false _ _ (f .1);
+    }
+
 -- From document d.
 pub record Navigates (words : List ℕ) (d : ℕ) : Type 0 where
   pub sound : Sound words
   pub seen : So (visible (rowsOf words) d)
-  pub roomy : length (cleared (rowsOf words)) < capacity words
+  pub roomy : length (cleared (rootAt (rowsOf words) (place (rowsOf words) d)) (rowsOf words)) < capacity words
   pub doc : tableOf words .nextDoc ≢ none
 
 pub navigate-relies : (words : List ℕ) (d : ℕ) → NoneGiven (refusals (Call.Navigate words d)) → Navigates words d

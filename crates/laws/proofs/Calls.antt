@@ -34,6 +34,15 @@ module _ (lent : List (List ℕ)) (done : Outcome) where
   ladder-given k vs [] h = absurd h
   ladder-given k vs (r ∷ rungs) h = ⊎-elim (λ g. rw (g .0, g .1, g .2) refl) (λ g. rw (g .0) (ladder-given k vs rungs (g .1))) h
 
+-- What holds of two refusals by one number, and of what two ladders with the same rungs end in, holds of the ladders.
+module _ (R : Outcome → Outcome → Type 0) {lent runs : List (List ℕ)} {done made : Outcome}
+    (refused : (k : ℕ) (vs : List ℕ) → R (record { answer = Answer.refuses k vs; lent = lent }) (record { answer = Answer.refuses k vs; lent = runs })) where
+  pub ladder-same : (rungs : List Rung) → (NoneGiven rungs → R done made) → R (ladder rungs lent done) (ladder rungs runs made)
+  unfolding ladder NoneGiven
+  ladder-same [] top = top tt
+  ladder-same (r ∷ rungs) top =
+      test (r .holds) (λ t. rw t (refused (r .number) (r .carries))) (λ f. rw f (ladder-same rungs (λ n. top (f, n))))
+
 -- A LONGER TABLE
 
 pub given-more : (k : ℕ) (vs : List ℕ) (rungs more : List Rung) → Given k vs rungs → Given k vs (rungs ++ more)
@@ -66,21 +75,29 @@ accepted-gives c k vs e = subst IsGiven e (given c)
     given (Call.Fresh words) = tt
     given (Call.Open words parent) = tt
     given (Call.Navigate words from) = tt
-    given (Call.Traverse words δ room) = tt
+    given (Call.Traverse words root δ room) = tt
     given (Call.Drop words frame) = tt
     given (Call.Replace words d) = tt
-    given (Call.Position words) = tt
+    given (Call.Tab words) = tt
+    given (Call.Position words root) = tt
     given (Call.Visible words d) = tt
-    given (Call.Lists words takens upcomings) = tt
+    given (Call.Lists words root takens upcomings) = tt
     given (Call.Stretch takens upcomings δ) = tt
     given (Call.StretchCount takens upcomings δ) = tt
-    given (Call.Outline words room) = tt
+    given (Call.Outline words root room) = tt
     given (Call.Save words room) = tt
     given (Call.Load words bytes) = tt
     given (Call.LoadOld words bytes) = tt
     given (Call.SetPlace words places d place) = tt
     given (Call.AskPlace words places d) = tt
     given (Call.AskAtZoom words places d zoom) = tt
+
+-- Two calls with the same table: what holds of both when it refuses, and when it does not, holds of what becomes of them.
+pub outcomes-same : (R : Outcome → Outcome → Type 0) (c c' : Call) → refusals c ≡ refusals c' →
+    ((k : ℕ) (vs : List ℕ) → R (record { answer = Answer.refuses k vs; lent = lentTo c }) (record { answer = Answer.refuses k vs; lent = lentTo c' })) →
+    (NoneGiven (refusals c) → R (accepted c) (accepted c')) → R (outcome c) (outcome c')
+unfolding outcome
+outcomes-same R c c' e refused done = subst (λ x. R (ladder (refusals c) (lentTo c) (accepted c)) (ladder x (lentTo c') (accepted c'))) e (ladder-same R refused (refusals c) done)
 
 module _ (c : Call) where
   pub outcome-accepted : NoneGiven (refusals c) → outcome c ≡ accepted c

@@ -13,7 +13,8 @@ use Rattle.rules.specs.Below.{count, earliest, latest}
 use Rattle.rules.specs.Rows.{Row, rowAt, docAt, frameAt, parentAt, isShown, marked, withFlags}
 use Rattle.rules.specs.Steps.{same, step, reach, isStep, reached, taken, upcoming, position, steps}
 use Rattle.rules.specs.Moves.{show, forward, back, backTarget, rowBefore, times}
-use Rattle.rules.specs.Sound.{S6, S7}
+use Rattle.rules.specs.Sound.{S6}
+use Rattle.laws.specs.Alone.{InOrder}
 use Rattle.laws.proofs.Tests.{clash, count-le, one-out, nth, greatest, latest-is, by-lt}
 use Rattle.laws.proofs.Frames.{due, reach-in, step-in, step-out, last-below, last-reach, last-same, reached-due, OneEach, Later, positionOf}
 use Rattle.laws.proofs.Frames.{shows, shows-count, shows-one, shows-later, swap, next-due, next-shows, next-first, next-last, before-shows}
@@ -62,7 +63,7 @@ module _ (p : ℕ) (rows : List Row) where
         one = subst₃ OneEach (sym at-length) (sym at-frame) (sym at-shown) (shows-one (length rows) (frameAt rows) p);
       }
 
-  pub at-S7 : S7 (flagsAt p rows)
+  pub at-S7 : InOrder (flagsAt p rows)
   at-S7 = record { later = subst₃ Later (sym at-length) (sym at-frame) (sym at-shown) (shows-later (length rows) (frameAt rows) p) }
 
   pub at-steps : steps (flagsAt p rows) ≡ steps rows
@@ -75,7 +76,7 @@ unfolding flagsAt
 at-at p q rows =
     subst₂ (λ n fr. withFlags (shows n fr q) (flagsAt p rows) ≡ flagsAt q rows) (sym (at-length p rows)) (sym (at-frame p rows)) (flags-flags _ _ rows)
 
-module _ (rows : List Row) (s6 : S6 rows) (s7 : S7 rows) where
+module _ (rows : List Row) (s6 : S6 rows) where
   -- A frame's first row is reached.
   first-reached : (i : ℕ) → i < length rows → isStep rows i ≡ false → So (reached rows i)
   first-reached i l f =
@@ -89,22 +90,23 @@ module _ (rows : List Row) (s6 : S6 rows) (s7 : S7 rows) where
   only-shown i k a b e s t =
       one-out _ (length rows) (s6 .one i a) .1 i k a b (simp and-eq-true-iff (eq-eqb (frameAt rows i) _ refl, s)) (simp and-eq-true-iff (eq-eqb _ _ e, t))
 
-  -- What is reached is what is due at the position.
-  pub reached-is : (i : ℕ) → i < length rows → reached rows i ≡ due (frameAt rows) (position rows) i
-  unfolding position
-  reached-is = reached-due _ _ (isShown rows) first-reached (λ i j a b s f t u. s7 .later i j a b (simp and-eq-true-iff (s, rw f refl)) t u)
+  module _ (s7 : InOrder rows) where
+    -- What is reached is what is due at the position.
+    pub reached-is : (i : ℕ) → i < length rows → reached rows i ≡ due (frameAt rows) (position rows) i
+    unfolding position
+    reached-is = reached-due _ _ (isShown rows) first-reached (λ i j a b s f t u. s7 .later i j a b (simp and-eq-true-iff (s, rw f refl)) t u)
 
-  -- S6 and S7 leave one choice: the flags are those of the rows' position.
-  pub central : flagsAt (position rows) rows ≡ rows
-  unfolding flagsAt
-  central =
-      flags-same _ rows (s6 .bit) (λ i l.
-      last-same _ _ _ (reached rows) i l (λ k a e. sym (reached-is k a)) ∙ last-reach _ _ (isShown rows) only-shown i l)
+    -- S6 and S7 leave one choice: the flags are those of the rows' position.
+    pub central : flagsAt (position rows) rows ≡ rows
+    unfolding flagsAt
+    central =
+        flags-same _ rows (s6 .bit) (λ i l.
+        last-same _ _ _ (reached rows) i l (λ k a e. sym (reached-is k a)) ∙ last-reach _ _ (isShown rows) only-shown i l)
 
 -- And only those: S6 and S7 as one equation.
-pub one-choice : (rows : List Row) → (S6 rows × S7 rows) ↔ (flagsAt (position rows) rows ≡ rows)
+pub one-choice : (rows : List Row) → (S6 rows × InOrder rows) ↔ (flagsAt (position rows) rows ≡ rows)
 one-choice rows =
-    (λ h. central rows (h .0) (h .1), λ e. (subst S6 e (at-S6 (position rows) rows), subst S7 e (at-S7 (position rows) rows)))
+    (λ h. central rows (h .0) (h .1), λ e. (subst S6 e (at-S6 (position rows) rows), subst InOrder e (at-S7 (position rows) rows)))
 
 pub position-steps : (rows : List Row) → position rows ≤ steps rows
 unfolding position steps

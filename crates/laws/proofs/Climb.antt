@@ -9,12 +9,13 @@ use native.Mathlib.Omega.{arith}
 use lib.Dec.{eqb}
 use lib.ListN.{length}
 use borrow.Author.Tests.{eqb-true, eqb-false, eq-eqb, ne-eqb}
-use Rattle.rules.specs.Rows.{Row, none, docAt, parentAt, isShown, isDoc, climb}
+use Rattle.rules.specs.Rows.{Row, none, docAt, parentAt, isShown, isDoc, inRecord, climb}
 use Rattle.rules.specs.Steps.{Hider, isNobody, Climb, ended, further, climbAsk, lost, climbAt, climbOf, hiderAt, hiderOf, visibleAt, visible}
 use Rattle.rules.specs.Moves.{beneathAsk, gone}
 use Rattle.rules.specs.Sound.{S4}
 use Rattle.laws.proofs.Tests.{test, clash, or-left, or-right, or-cases, below-cases}
 use Rattle.laws.proofs.Tree.{TreeOf, Once, distinct}
+use Rattle.laws.proofs.Reflect.{record-is}
 
 module _ {A : Type 0} (lost : A) (ask : (ℕ → A) → ℕ → A) (rows : List Row) where
   -- Where no row has the document, the question is lost.
@@ -133,6 +134,10 @@ module _ (rows : List Row) where
   pub sees-out : (d : ℕ) → So (visible rows d) → (i : ℕ) × (i < length rows) × (docAt rows i ≡ d) × So (visibleAt rows i)
   sees-out d s =
       let r = climb-out (visibleAsk rows) rows (length rows) d (sym (visible-is rows d) ∙ s) in (r .0, r .1, r .2, visible-at-is rows (r .0) ∙ r .3)
+
+  -- What is visible is in the record.
+  pub seen-there : (d : ℕ) → So (visible rows d) → So (inRecord rows d)
+  seen-there d v = let o = sees-out d v in record-is rows d .1 (o .0, o .1, o .2)
 
 -- WHAT THE CLIMB FINDS
 

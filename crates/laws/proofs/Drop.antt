@@ -14,7 +14,7 @@ use Rattle.rules.specs.Moves.{without, dropped}
 use Rattle.rules.specs.Saved.{parentOf}
 use Rattle.laws.proofs.Tests.{clash, off, count-in}
 use Rattle.laws.proofs.Kept.{kept-row, kept-length}
-use Rattle.laws.proofs.Tree.{distinct, parent-of, came}
+use Rattle.laws.proofs.Tree.{TreeOf, distinct, parent-of, came}
 use Rattle.laws.proofs.Reflect.{record-is}
 use Rattle.laws.proofs.Climb.{gone-cases}
 use Rattle.laws.proofs.Removal.{SoundRows, Together, Removed, stays, stays-in, stays-up, removed}
@@ -50,13 +50,14 @@ module _ (t : Table) (f : ℕ) where
     pub dropped-position : position (dropped t f .rows) + count (λ k. not (staysBut f (t .rows) k) && taken (t .rows) k) (length (t .rows)) ≡ position (t .rows)
     dropped-position = frame-removed .falls
 
-    -- Where the frame lies in a document, the first row of the record stays: it is of the root frame.
+  module _ {a b : ℕ} (tree : TreeOf (t .rows) a b) where
+    -- Where the frame lies in a document, the first row of the record stays: it has no parent.
     pub dropped-some : parentOf (t .rows) f ≢ none → 1 ≤ length (t .rows) → 1 ≤ length (dropped t f .rows)
     dropped-some child some =
-        let top = ⊎-elim (λ e. e) (λ r. absurd (omega arith)) (s .tree .placed 0 some) in
+        let top = ⊎-elim (λ e. e) (λ r. absurd (omega arith)) (tree .placed 0 some) in
         let stay = stays-in (inFrame (t .rows) f) (t .rows) 0 (λ g.
         gone-cases (inFrame (t .rows) f) (t .rows) 0 g
-        (λ v. child (parent-of (t .rows) (s .tree .kin) 0 f some (eqb-true _ _ v) ∙ top))
+        (λ v. child (parent-of (t .rows) (tree .kin) 0 f some (eqb-true _ _ v) ∙ top))
         (λ j l h e. omega arith)) in
         omega (arith, dropped-length, count-in (staysBut f (t .rows)) (length (t .rows)) {i = 0} some stay)
 
@@ -66,5 +67,5 @@ module _ (t : Table) (f : ℕ) where
     dropped-out k l goes =
         off _ (λ h.
         let o = record-is (dropped t f .rows) (docAt (t .rows) k) .0 h in
-        let c = came (staysBut f (t .rows)) (t .rows) (s .tree) (stays-up (inFrame (t .rows) f) (t .rows) (s .tree)) (o .0) (o .1) in
-        clash (subst (λ i. So (staysBut f (t .rows) i)) (distinct (s .tree) (c .0) k (c .1) l (sym (c .4 .d) ∙ o .2)) (c .2)) goes)
+        let c = came (staysBut f (t .rows)) (t .rows) tree (stays-up (inFrame (t .rows) f) (t .rows) tree) (o .0) (o .1) in
+        clash (subst (λ i. So (staysBut f (t .rows) i)) (distinct tree (c .0) k (c .1) l (sym (c .4 .d) ∙ o .2)) (c .2)) goes)

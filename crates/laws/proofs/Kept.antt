@@ -8,7 +8,8 @@ use lib.ListN.{length}
 use Rattle.rules.specs.Below.{count, gather}
 use Rattle.rules.specs.Rows.{Row, noRow, rowAt, frameAt, marked}
 use Rattle.rules.specs.Steps.{step, isStep, reached, taken, position, steps}
-use Rattle.rules.specs.Sound.{S6, S7}
+use Rattle.rules.specs.Sound.{S6}
+use Rattle.laws.specs.Alone.{InOrder}
 use Rattle.laws.proofs.Tests.{test, clash, off, same-tests, count-in, count-le, count-flat, count-mono, count-same, count-split, nth, by-order, by-lt}
 use Rattle.laws.proofs.Tests.{length-gather, gather-at, gather-is}
 use Rattle.laws.proofs.Frames.{last, due, first, step-in, step-out, last-in, last-out, due-first, due-in, due-out, shows}
@@ -135,7 +136,7 @@ module _ (keep : ℕ → Bool) (rows : List Row) (p : ℕ) (whole : Whole keep r
       ∙ sym (at-row p rows k a)))
 
 -- What a sound record keeps is sound, and its position is the number of taken steps kept.
-module _ (keep : ℕ → Bool) (rows : List Row) (s6 : S6 rows) (s7 : S7 rows) (whole : Whole keep rows (position rows)) where
+module _ (keep : ℕ → Bool) (rows : List Row) (s6 : S6 rows) (s7 : InOrder rows) (whole : Whole keep rows (position rows)) where
   keptTaken : dueKept (length rows) (frameAt rows) keep (position rows) ≡ count (λ k. keep k && taken rows k) (length rows)
   unfolding dueKept
   keptTaken = count-same _ _ (length rows) (λ k a. rw (reached-is rows s6 s7 k a) refl)
@@ -156,8 +157,8 @@ module _ (keep : ℕ → Bool) (rows : List Row) (s6 : S6 rows) (s7 : S7 rows) (
   pub kept-S6 : S6 (kept keep rows)
   kept-S6 = subst S6 kept-fixed (at-S6 _ (kept keep rows))
 
-  pub kept-S7 : S7 (kept keep rows)
-  kept-S7 = subst S7 kept-fixed (at-S7 _ (kept keep rows))
+  pub kept-S7 : InOrder (kept keep rows)
+  kept-S7 = subst InOrder kept-fixed (at-S7 _ (kept keep rows))
 
   -- A kept step is taken, or upcoming, as it was.
   firsts : (j k : ℕ) → j ≤ k → k < length rows → frameAt rows j ≡ frameAt rows k → isStep rows j ≡ false → So (keep k) → So (keep j)

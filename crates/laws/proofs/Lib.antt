@@ -15,6 +15,8 @@ pub mod Lists
 pub mod Reflect
 pub mod Writes
 pub mod Words
+pub mod Rooms
+pub mod Reflagged
 pub mod Loops
 pub mod Standing
 pub mod Calls

@@ -10,8 +10,9 @@ use borrow.Author.Tests.{ltb-true, ltb-false}
 use Rattle.rules.specs.Below.{count, gather}
 use Rattle.rules.specs.Rows.{Row, docAt, frameAt}
 use Rattle.rules.specs.Steps.{isStep, reached, taken, upcoming, position, steps}
-use Rattle.rules.specs.Sound.{S6, S7}
+use Rattle.rules.specs.Sound.{S6}
 use Rattle.rules.specs.Asks.{takenList, upcomingList}
+use Rattle.laws.specs.Alone.{InOrder}
 use Rattle.laws.proofs.Tests.{test, count-zero, count-yes, count-no, count-same, count-first, length-gather}
 use Rattle.laws.proofs.Frames.{due-step}
 use Rattle.laws.proofs.Central.{reached-is}
@@ -20,7 +21,7 @@ no-entries : (xs : List ℕ) → length xs ≡ 0 → xs ≡ []
 no-entries [] e = refl
 no-entries (x ∷ xs) e = absurd (omega arith)
 
-module _ (rows : List Row) (s6 : S6 rows) (s7 : S7 rows) where
+module _ (rows : List Row) (s6 : S6 rows) (s7 : InOrder rows) where
   -- The first steps are the taken ones.
   pub taken-is : (i : ℕ) → i < length rows → taken rows i ≡ (isStep rows i && ltb (count (isStep rows) i) (position rows))
   taken-is i l = ap (λ b. isStep rows i && b) (reached-is rows s6 s7 i l) ∙ due-step (frameAt rows) (position rows) i

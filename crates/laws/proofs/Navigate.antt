@@ -6,12 +6,15 @@ use mathlib.Core.Logic.{_≢_, inl, inr, ⊎-elim}
 use mathlib.Core.Bool.{Bool, true, false, not, _&&_, So, cond, false≢true}
 use native.Mathlib.Omega.{arith}
 use lib.Dec.{eqb}
+use lib.IntN.{ℤ}
 use lib.ListN.{length}
 use borrow.Author.Tests.{eqb-true, eqb-false, eq-eqb, ne-eqb}
 use Rattle.rules.specs.Below.{count}
 use Rattle.rules.specs.Rows.{Row, Table, none, rowAt, docAt, frameAt, parentAt, isShown, isDoc, place, marked}
 use Rattle.rules.specs.Steps.{same, isStep, upcoming, position, steps, visibleAt, visible}
-use Rattle.rules.specs.Moves.{opened, without, cleared, hide, navigated, show, forward}
+use Rattle.rules.specs.Windows.{rootAt}
+use Rattle.rules.specs.Moves.{opened, without, cleared, hide, show, forward, navigated, reflagged, traversed}
+use Rattle.laws.specs.Alone.{clearedAll, navigatedAll}
 use Rattle.laws.proofs.Tests.{off, count-yes, count-same, count-in}
 use Rattle.laws.proofs.Frames.{step-in, step-out, next-shows, next-due}
 use Rattle.laws.proofs.Flags.{flags-length, flags-eq}
@@ -26,14 +29,20 @@ pub tree-at : (p : ℕ) (rows : List Row) {a b : ℕ} → TreeOf rows a b → Tr
 unfolding flagsAt
 tree-at p rows t = tree-flags _ rows t
 
--- Opening adds a row, and navigating one to those that the clearing leaves.
+-- Opening adds a row, navigating one to those that the clearing leaves, and traversing none.
 pub opened-length : (t : Table) (p : ℕ) → length (opened t p .rows) ≡ suc (length (t .rows))
 unfolding opened
 opened-length t p = length-snoc (t .rows) _
 
-pub navigated-length : (t : Table) (d : ℕ) → length (navigated t d .rows) ≡ suc (length (cleared (t .rows)))
+pub navigated-length : (t : Table) (d : ℕ) → length (navigated t d .rows) ≡ suc (length (cleared (rootAt (t .rows) (place (t .rows) d)) (t .rows)))
 unfolding navigated hide
-navigated-length t d = length-snoc (hide d (cleared (t .rows))) _ ∙ ap suc (flags-length _ (cleared (t .rows)))
+navigated-length t d =
+    let c = cleared (rootAt (t .rows) (place (t .rows) d)) (t .rows) in
+    length-snoc (hide d c) _ ∙ ap suc (flags-length _ c)
+
+pub traversed-length : (t : Table) (r : ℕ) (δ : ℤ) → length (traversed t r δ .rows) ≡ length (t .rows)
+unfolding traversed reflagged
+traversed-length t r δ = flags-length _ (t .rows)
 
 -- Rows at any position are as sound as they were.
 pub sound-at : (p : ℕ) (rows : List Row) {a b : ℕ} → TreeOf rows a b → OneRoot rows → SoundRows (flagsAt p rows) a b
@@ -84,7 +93,7 @@ module _ (t : Table) (s : SoundRows (t .rows) (t .nextDoc) (t .nextFrame)) (unus
     arrival = record { doc = t .nextDoc; frame = frameAt rows (place rows d); parent = parentAt rows (place rows d); shown = 0 }
 
     abbrev c : List Row
-    c = cleared rows
+    c = clearedAll rows
 
     -- d's row stays: its place then.
     pub stayed : (k : ℕ) × (k < length c) × (rowAt c k ≡ rowAt rows (place rows d)) × (docAt rows (place rows d) ≡ d) × So (isShown rows (place rows d))
@@ -140,7 +149,7 @@ module _ (t : Table) (s : SoundRows (t .rows) (t .nextDoc) (t .nextFrame)) (unus
         let d-shown : So (isShown c (k .0)) = ap (λ r. eqb (r .shown) 1) (k .2) ∙ k .4 in
         ap₂ (λ b e. cond b (eqb i (length c)) e) fr sh ∙ by-frame (eqb (frameAt c i) (frameAt c (k .0))) (eqb i (length c)) (isDoc c d i) (isShown c i)
         (ne-eqb i (length c) (λ e. omega arith))
-        (λ y z. eq-eqb (docAt c i) d (ap (docAt c) (only-shown c (sc .s6) (sc .s7) i (k .0) l (k .1) (sym (eqb-true _ _ y)) z d-shown) ∙ d-here))
+        (λ y z. eq-eqb (docAt c i) d (ap (docAt c) (only-shown c (sc .s6) i (k .0) l (k .1) (sym (eqb-true _ _ y)) z d-shown) ∙ d-here))
         (λ y. ne-eqb (docAt c i) d (λ e. eqb-false _ _ y (ap (frameAt c) (distinct (sc .tree) i (k .0) l (k .1) (e ∙ sym d-here)))))
       where
         by-frame : (inside here named shown : Bool) → here ≡ false → (So inside → So shown → So named) → (inside ≡ false → named ≡ false) →
@@ -151,8 +160,8 @@ module _ (t : Table) (s : SoundRows (t .rows) (t .nextDoc) (t .nextFrame)) (unus
         by-frame false here true shown e f g = absurd (false≢true (sym (g refl)))
         by-frame false here false shown e f g = refl
 
-    shown-last : show (length c) (c ++ arrival ∷ []) ≡ navigated t d .rows
-    unfolding show hide navigated
+    shown-last : show (length c) (c ++ arrival ∷ []) ≡ navigatedAll t d .rows
+    unfolding show hide navigatedAll
     shown-last =
         let fr = frameAt (c ++ arrival ∷ []) in
         let e : cond (same fr (length c) (length c)) (eqb (length c) (length c)) (isShown (c ++ arrival ∷ []) (length c)) ≡ true =
@@ -160,17 +169,17 @@ module _ (t : Table) (s : SoundRows (t .rows) (t .nextDoc) (t .nextFrame)) (unus
         flags-append _ c arrival ∙ ap₂ (λ l b. l ++ marked b arrival ∷ []) (flags-eq _ _ c hidden-alike) e
 
     -- "removes [..], closes the gaps, appends [..] and makes d not shown" is the record at the next position.
-    pub navigated-at : navigated t d .rows ≡ flagsAt (suc (position rows)) (c ++ arrival ∷ [])
+    pub navigated-at : navigatedAll t d .rows ≡ flagsAt (suc (position rows)) (c ++ arrival ∷ [])
     navigated-at =
         let last : length c < length (c ++ arrival ∷ []) = omega (arith, length-snoc c arrival) in
         sym shown-last ∙ ap (show (length c)) (sym appended)
         ∙ show-at (position rows) (suc (position rows)) (length c) (c ++ arrival ∷ []) last (next-shows _ _ (position rows) _ last new-step new-number) (next-due _ _ (position rows) _ last new-step new-number)
 
     -- Navigate is clear, append, forward.
-    pub navigate-is : navigated t d .rows ≡ forward (c ++ arrival ∷ [])
+    pub navigate-is : navigatedAll t d .rows ≡ forward (c ++ arrival ∷ [])
     navigate-is = navigated-at ∙ sym forward-is
 
-    pub navigated-sound : SoundRows (navigated t d .rows) (suc (t .nextDoc)) (t .nextFrame)
+    pub navigated-sound : SoundRows (navigatedAll t d .rows) (suc (t .nextDoc)) (t .nextFrame)
     navigated-sound =
         let k = stayed in
         let sc = cleared-removed rows s .sound in

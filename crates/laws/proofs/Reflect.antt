@@ -11,9 +11,10 @@ use borrow.Author.Tests.{lt-ltb, le-leb, eq-eqb, ltb-true, leb-true, eqb-true}
 use Rattle.rules.specs.Below.{someBelow, allBelow, count}
 use Rattle.rules.specs.Rows.{Row, Table, none, docAt, frameAt, parentAt, shownAt, isShown, inRecord, isFrame}
 use Rattle.rules.specs.Steps.{same, isStep, upcoming}
+use Rattle.rules.specs.Windows.{rootAt}
 use Rattle.rules.specs.Words.{capacity, tableOf}
 use Rattle.rules.specs.Sound.{S1, S2, S3, S4, S5, S6, S7, S8, s1?, s2?, s3?, s4?, s5?, s6?, s7?, s8?, SoundTable, soundTable?, Sound, sound?}
-use Rattle.rules.specs.OldSaved.{S2rising, s2rising?, OldTable, oldTable?}
+use Rattle.rules.specs.OldSaved.{S2rising, s2rising?, S5alone, s5alone?, OldTable, oldTable?}
 use Rattle.laws.proofs.Tests.{by-lt, by-order, some-in, some-out, all-in, all-out}
 
 abbrev pub Ref : Bool → Type 0 → Type 0
@@ -103,11 +104,17 @@ module _ (rows : List Row) where
   s5-is : Ref (s5? rows) (S5 rows)
   s5-is =
       ref-map
-      (λ h. record { kin = λ i j a b. h i a j b .0; root = λ i j a b e f. h i a j b .1 (e, f) })
-      (λ s i a j b. (s .kin i j a b, λ e. s .root i j a b (e .0) (e .1)))
-      (ref-all (λ i. ref-all (λ j. ref-and
-      (ref-imp (ref-eq (frameAt rows i) (frameAt rows j)) (ref-eq (parentAt rows i) (parentAt rows j)))
-      (ref-imp (ref-and (ref-eq (parentAt rows i) none) (ref-eq (parentAt rows j) none)) (ref-eq (frameAt rows i) (frameAt rows j)))) (length rows)) (length rows))
+      (λ h. record { kin = λ i j a b. h i a j b })
+      (λ s i a j b. s .kin i j a b)
+      (ref-all (λ i. ref-all (λ j. ref-imp (ref-eq (frameAt rows i) (frameAt rows j)) (ref-eq (parentAt rows i) (parentAt rows j))) (length rows)) (length rows))
+
+  s5alone-is : Ref (s5alone? rows) (S5alone rows)
+  s5alone-is =
+      ref-map
+      (λ h. record { root = λ i j a b e f. h i a j b (e, f) })
+      (λ s i a j b e. s .root i j a b (e .0) (e .1))
+      (ref-all (λ i. ref-all (λ j.
+      ref-imp (ref-and (ref-eq (parentAt rows i) none) (ref-eq (parentAt rows j) none)) (ref-eq (frameAt rows i) (frameAt rows j))) (length rows)) (length rows))
 
   s6-is : Ref (s6? rows) (S6 rows)
   s6-is =
@@ -117,9 +124,10 @@ module _ (rows : List Row) where
   s7-is : Ref (s7? rows) (S7 rows)
   s7-is =
       ref-map
-      (λ h. record { later = λ i j a b u s t. h i a j b (u, (s, t)) })
-      (λ s i a j b h. s .later i j a b (h .0) (h .1 .0) (h .1 .1))
-      (ref-all (λ i. ref-all (λ j. ref-imp (ref-and (ref-so (upcoming rows i)) (ref-and (ref-so (isStep rows j)) (ref-so (isShown rows j)))) (ref-lt j i)) (length rows)) (length rows))
+      (λ h. record { later = λ i j a b e u s t. h i a j b (u, (s, (t, e))) })
+      (λ s i a j b h. s .later i j a b (h .1 .1 .1) (h .0) (h .1 .0) (h .1 .1 .0))
+      (ref-all (λ i. ref-all (λ j.
+      ref-imp (ref-and (ref-so (upcoming rows i)) (ref-and (ref-so (isStep rows j)) (ref-and (ref-so (isShown rows j)) (ref-eq (rootAt rows i) (rootAt rows j))))) (ref-lt j i)) (length rows)) (length rows))
 
 s8-is : (words : List ℕ) → Ref (s8? words) (S8 words)
 s8-is words =
@@ -140,7 +148,10 @@ sound-table-is room t =
 pub old-table-is : (room : ℕ) (t : Table) → So (oldTable? room t) ↔ OldTable room t
 unfolding oldTable?
 old-table-is room t =
-    ref-map (λ h. record { sound = h .0; order = h .1 }) (λ s. (s .sound, s .order)) (ref-and (sound-table-is room t) (s2rising-is (t .rows) (t .nextDoc)))
+    ref-map
+    (λ h. record { sound = h .0; order = h .1 .0; alone = h .1 .1 })
+    (λ s. (s .sound, (s .order, s .alone)))
+    (ref-and (sound-table-is room t) (ref-and (s2rising-is (t .rows) (t .nextDoc)) (s5alone-is (t .rows))))
 
 -- The computed test is S1 to S8.
 pub sound-is : (words : List ℕ) → So (sound? words) ↔ Sound words

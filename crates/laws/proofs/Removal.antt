@@ -9,15 +9,16 @@ use native.Mathlib.Omega.{arith}
 use lib.ListN.{length}
 use borrow.Author.Tests.{not-true}
 use Rattle.rules.specs.Below.{count}
-use Rattle.rules.specs.Rows.{Row, Table, none, docAt, frameAt, parentAt, isShown}
+use Rattle.rules.specs.Rows.{Row, docAt, frameAt, parentAt, isShown}
 use Rattle.rules.specs.Steps.{isStep, reached, taken, upcoming, position, steps, visibleAt}
-use Rattle.rules.specs.Moves.{gone, without, cleared}
-use Rattle.rules.specs.Sound.{S6, S7, SoundTable}
+use Rattle.rules.specs.Moves.{gone, without}
+use Rattle.rules.specs.Sound.{S6}
+use Rattle.laws.specs.Alone.{InOrder, clearedAll}
 use Rattle.laws.proofs.Tests.{test, clash, off, same-tests, count-same}
 use Rattle.laws.proofs.Frames.{due, due-in, due-out, step-in, step-out, reach-out, last-out, shows}
 use Rattle.laws.proofs.Central.{flagsAt, reached-is, at-shown, at-doc, at-parent}
 use Rattle.laws.proofs.Kept.{Whole, removed-steps, kept-position, kept-falls, kept-S6, kept-S7}
-use Rattle.laws.proofs.Tree.{TreeOf, OneRoot, tree-of, distinct, proper, parent-earlier, tree-kept, one-kept}
+use Rattle.laws.proofs.Tree.{TreeOf, OneRoot, distinct, proper, parent-earlier, tree-kept, one-kept}
 use Rattle.laws.proofs.Climb.{gone-self, gone-child, gone-cases, visible-out}
 
 -- What S2 to S7 say of the rows of one window.
@@ -25,10 +26,7 @@ pub record SoundRows (rows : List Row) (nextDoc nextFrame : ℕ) : Type 0 where
   pub tree : TreeOf rows nextDoc nextFrame
   pub root : OneRoot rows
   pub s6 : S6 rows
-  pub s7 : S7 rows
-
-pub sound-rows : {room : ℕ} {t : Table} → SoundTable room t → t .nextDoc ≤ none → SoundRows (t .rows) (t .nextDoc) (t .nextFrame)
-sound-rows s w = record { tree = tree-of s w; root = s .s5 .root; s6 = s .s6; s7 = s .s7 }
+  pub s7 : InOrder rows
 
 abbrev pub stays : (ℕ → Bool) → List Row → ℕ → Bool
 stays q rows i = not (gone q rows i)
@@ -102,14 +100,14 @@ module _ (rows : List Row) {a b : ℕ} (s : SoundRows rows a b) where
   pub cleared-removed : Removed (upcoming rows) rows a b
   cleared-removed = removed (upcoming rows) (λ j k l m e d v. absurd (clash d (upcoming-late j l v)))
 
-  pub cleared-position : position (cleared rows) ≡ position rows
+  pub cleared-position : position (clearedAll rows) ≡ position rows
   unfolding position
   cleared-position =
       cleared-removed .position-is ∙ count-same _ _ (length rows) (λ k l.
       same-tests (λ h. simp and-eq-true-iff ((simp and-eq-true-iff at h) .1)) (λ h. simp and-eq-true-iff (taken-stays k l h, simp and-eq-true-iff at h)))
 
   -- No step is upcoming any more.
-  pub cleared-steps : steps (cleared rows) ≡ position rows
+  pub cleared-steps : steps (clearedAll rows) ≡ position rows
   cleared-steps =
       cleared-removed .steps-is ∙ count-same _ _ (length rows) (λ k l.
       same-tests

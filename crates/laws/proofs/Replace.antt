@@ -12,7 +12,8 @@ use Rattle.rules.specs.Below.{count}
 use Rattle.rules.specs.Rows.{Row, Table, none, noRow, rowAt, docAt, frameAt, parentAt, shownAt, isShown, isDoc, inRecord}
 use Rattle.rules.specs.Steps.{step, reach, isStep, reached, taken, position, steps}
 use Rattle.rules.specs.Moves.{without, isChild, named, renamed, replaced}
-use Rattle.rules.specs.Sound.{S6, S7}
+use Rattle.rules.specs.Sound.{S6}
+use Rattle.laws.specs.Alone.{InOrder}
 use Rattle.laws.proofs.Tests.{test, clash, by-lt, count-in, count-all, length-tab, tab-at}
 use Rattle.laws.proofs.Frames.{OneEach, Later, positionOf}
 use Rattle.laws.proofs.Kept.{Whole, kept-row, kept-length, kept-step, kept-reached}
@@ -66,7 +67,7 @@ module _ (d m : ℕ) (rows : List Row) where
         one = subst₃ OneEach (sym renamed-length) (sym renamed-frame) (sym renamed-marks) (s .one);
       }
 
-  pub renamed-S7 : S7 rows → S7 (renamed d m rows)
+  pub renamed-S7 : InOrder rows → InOrder (renamed d m rows)
   renamed-S7 s = record { later = subst₃ Later (sym renamed-length) (sym renamed-frame) (sym renamed-marks) (s .later) }
 
   pub renamed-one : OneRoot rows → OneRoot (renamed d m rows)
@@ -109,6 +110,22 @@ module _ (d m : ℕ) (rows : List Row) where
 abbrev pub staysOver : ℕ → List Row → ℕ → Bool
 staysOver d rows = stays (isChild rows d) rows
 
+module _ (rows : List Row) {a b : ℕ} (tree : TreeOf rows a b) (d : ℕ) where
+  -- What lies in d goes with its whole frames.
+  pub children-together : (p : ℕ) → Together (isChild rows d) rows p
+  children-together p j k l m e v h = eq-eqb _ _ (sym (tree .kin j k l m e) ∙ eqb-true _ _ h)
+
+  -- Rows up to d's own stay where they are: what lies in it is later.
+  module _ (k : ℕ) (l : k < length rows) (there : docAt rows k ≡ d) where
+    pub stays-upto : (i : ℕ) → i ≤ k → So (staysOver d rows i)
+    stays-upto i m =
+        stays-in (isChild rows d) rows i (λ g.
+        let v = gone-later (isChild rows d) rows (suc i) i (omega arith) g in
+        omega (arith, parent-earlier tree k (v .0) l (omega arith) (there ∙ sym (eqb-true _ _ (v .2)))))
+
+    pub place-upto : (i : ℕ) → i ≤ suc k → count (staysOver d rows) i ≡ i
+    place-upto i m = count-all (staysOver d rows) i (λ j n. stays-upto j (omega arith))
+
 module _ (t : Table) (d : ℕ) where
   abbrev rows : List Row
   rows = t .rows
@@ -133,20 +150,23 @@ module _ (t : Table) (d : ℕ) where
   unfolding replaced without
   replaced-length = renamed-length d (t .nextDoc) bared ∙ kept-length keep rows
 
-  -- In what is left nothing lies in d.
-  pub bare : {a b : ℕ} → TreeOf rows a b → (i : ℕ) → i < length bared → parentAt bared i ≡ d → ⊥
-  unfolding without
-  bare tree i l e =
-      let u = came keep rows tree (stays-up (isChild rows d) rows tree) i l in
-      clash (gone-self (isChild rows d) rows (u .0) (eq-eqb _ _ (sym (u .4 .p) ∙ e))) (not-true _ (u .2))
+  module _ {a b : ℕ} (tree : TreeOf rows a b) where
+    -- In what is left nothing lies in d.
+    pub bare : (i : ℕ) → i < length bared → parentAt bared i ≡ d → ⊥
+    unfolding without
+    bare i l e =
+        let u = came keep rows tree (stays-up (isChild rows d) rows tree) i l in
+        clash (gone-self (isChild rows d) rows (u .0) (eq-eqb _ _ (sym (u .4 .p) ∙ e))) (not-true _ (u .2))
+
+    -- Some row is left: d's own.
+    pub replaced-some : So (inRecord rows d) → 1 ≤ length (replaced t d .rows)
+    replaced-some h =
+        let r = record-is rows d .0 h in
+        omega (arith, replaced-length, count-in keep (length rows) (r .1) (stays-upto rows tree d (r .0) (r .1) (r .2) (r .0) (omega arith)))
 
   module _ (s : SoundRows (t .rows) (t .nextDoc) (t .nextFrame)) where
-    -- What lies in d goes with its whole frames.
-    pub children-together : (p : ℕ) → Together (isChild rows d) rows p
-    children-together p j k l m e v h = eq-eqb _ _ (sym (s .tree .kin j k l m e) ∙ eqb-true _ _ h)
-
     pub children-removed : Removed (isChild rows d) rows (t .nextDoc) (t .nextFrame)
-    children-removed = removed rows s (isChild rows d) (children-together (position rows))
+    children-removed = removed rows s (isChild rows d) (children-together rows (s .tree) d (position rows))
 
     -- The rows left are sound.
     pub replaced-sound : t .nextDoc ≢ none → SoundRows (replaced t d .rows) (replaced t d .nextDoc) (replaced t d .nextFrame)
@@ -167,7 +187,7 @@ module _ (t : Table) (d : ℕ) where
     replaced-position = omega (arith, renamed-position d (t .nextDoc) bared, children-removed .falls)
 
     whole : Whole keep rows (position rows)
-    whole = stays-whole (isChild rows d) rows (s .tree) (position rows) (children-together (position rows))
+    whole = stays-whole (isChild rows d) rows (s .tree) (position rows) (children-together rows (s .tree) d (position rows))
 
     -- "upcoming steps elsewhere stay": a step that stays is one still, taken or upcoming as it was.
     pub replaced-step : (k : ℕ) → k < length rows → So (keep k) → isStep (replaced t d .rows) (count keep k) ≡ isStep rows k
@@ -180,20 +200,3 @@ module _ (t : Table) (d : ℕ) where
         subst₃ (λ n fr sh. reach n fr sh (count keep k) ≡ reached rows k)
         (sym (renamed-length d (t .nextDoc) bared)) (sym (renamed-frame d (t .nextDoc) bared)) (sym (renamed-marks d (t .nextDoc) bared))
         (kept-reached keep rows (s .s6) (s .s7) whole k l h)
-
-    -- Rows up to d's own stay where they are.
-    module _ (k : ℕ) (l : k < length rows) (there : docAt rows k ≡ d) where
-      pub stays-upto : (i : ℕ) → i ≤ k → So (keep i)
-      stays-upto i m =
-          stays-in (isChild rows d) rows i (λ g.
-          let v = gone-later (isChild rows d) rows (suc i) i (omega arith) g in
-          omega (arith, parent-earlier (s .tree) k (v .0) l (omega arith) (there ∙ sym (eqb-true _ _ (v .2)))))
-
-      pub place-upto : (i : ℕ) → i ≤ suc k → count keep i ≡ i
-      place-upto i m = count-all keep i (λ j n. stays-upto j (omega arith))
-
-    -- So some row is left.
-    pub replaced-some : So (inRecord rows d) → 1 ≤ length (replaced t d .rows)
-    replaced-some h =
-        let r = record-is rows d .0 h in
-        omega (arith, replaced-length, count-in keep (length rows) (r .1) (stays-upto (r .0) (r .1) (r .2) (r .0) (omega arith)))

@@ -11,7 +11,8 @@ use borrow.Author.Tests.{ltb-false, lt-ltb, le-ltb, not-true}
 use Rattle.rules.specs.Below.{count, earliest, latest}
 use Rattle.rules.specs.Rows.{Row}
 use Rattle.rules.specs.Steps.{isStep, taken, upcoming, position, steps}
-use Rattle.rules.specs.Sound.{S6, S7}
+use Rattle.rules.specs.Sound.{S6}
+use Rattle.laws.specs.Alone.{InOrder}
 use Rattle.laws.proofs.Tests.{test, off, by-lt, some-out, count-zero, count-yes, count-no, count-mono, count-in, count-most, count-full, nth, earliest-is, latest-is, latest-same}
 use Rattle.laws.proofs.Central.{position-steps}
 use Rattle.laws.proofs.Lists.{taken-is, upcoming-is}
@@ -40,7 +41,7 @@ latest-upto p q (suc n) {e} l same none =
     (λ m. rw (none n (le-of-suc-le-suc m) (omega arith)) (latest-upto p q n (le-of-suc-le-suc m) same (λ k a b. none k a (omega arith))))
     (eq-or-lt-of-le l)
 
-module _ (rows : List Row) (s6 : S6 rows) (s7 : S7 rows) where
+module _ (rows : List Row) (s6 : S6 rows) (s7 : InOrder rows) where
   -- The earliest upcoming step, or the end of the rows, has as many steps before it as are taken; where there are more, a step stands there.
   start : (earliest (upcoming rows) (length rows) ≤ length rows) × (count (isStep rows) (earliest (upcoming rows) (length rows)) ≡ position rows) ×
       (position rows < steps rows → (earliest (upcoming rows) (length rows) < length rows) × So (isStep rows (earliest (upcoming rows) (length rows))))

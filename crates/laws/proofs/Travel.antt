@@ -11,8 +11,9 @@ use borrow.Author.Tests.{ltb-false}
 use Rattle.rules.specs.Rows.{Row}
 use Rattle.rules.specs.Steps.{position, steps}
 use Rattle.rules.specs.Moves.{show, forward, back, times, walked}
-use Rattle.rules.specs.Sound.{S6, S7}
+use Rattle.rules.specs.Sound.{S6}
 use Rattle.rules.specs.Calls.{outside}
+use Rattle.laws.specs.Alone.{InOrder}
 use Rattle.laws.proofs.Tests.{test, clash}
 use Rattle.laws.proofs.Flags.{flags-length}
 use Rattle.laws.proofs.Central.{flagsAt, central, at-position, at-steps, position-steps, forward-many, back-many}
@@ -24,7 +25,7 @@ pub record Landing (rows : List Row) (δ : ℤ) : Type 0 where
   pub sum : pos (position rows) +ℤ δ ≡ pos to
   pub rows-are : walked δ rows ≡ flagsAt to rows
 
-module _ (rows : List Row) (s6 : S6 rows) (s7 : S7 rows) where
+module _ (rows : List Row) (s6 : S6 rows) (s7 : InOrder rows) where
   pub walked-at : (δ : ℤ) → outside (steps rows) (pos (position rows) +ℤ δ) ≡ false → Landing rows δ
   unfolding walked
   walked-at (pos k) h =

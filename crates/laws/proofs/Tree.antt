@@ -107,14 +107,14 @@ tree-of {t = t} s w =
       kin = s .s5 .kin;
     }
 
-pub sound-of : {room : ℕ} {t : Table} → S1 room (t .rows) → TreeOf (t .rows) (t .nextDoc) (t .nextFrame) → OneRoot (t .rows) → S6 (t .rows) → S7 (t .rows) → SoundTable room t
-sound-of {t = t} s1 tree root s6 s7 =
+pub sound-of : {room : ℕ} {t : Table} → S1 room (t .rows) → TreeOf (t .rows) (t .nextDoc) (t .nextFrame) → S6 (t .rows) → S7 (t .rows) → SoundTable room t
+sound-of {t = t} s1 tree s6 s7 =
     record {
       s1 = s1;
       s2 = record { distinct = tree .distinct; below = tree .below };
       s3 = record { below = tree .framed };
       s4 = record { placed = tree .placed };
-      s5 = record { kin = tree .kin; root = root };
+      s5 = record { kin = tree .kin };
       s6 = s6;
       s7 = s7;
     }

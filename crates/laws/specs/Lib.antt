@@ -1,3 +1,4 @@
+pub mod Alone
 pub mod Outlines
 pub mod Writes
 pub mod Loading

@@ -5,5 +5,6 @@ pub mod Commands
 pub mod Texts
 pub mod Answers
 pub mod Spelling
+pub mod Blanks
 pub mod Trips
 pub mod Examples

@@ -17,9 +17,9 @@ module _ (n : Number) (k : ℕ) (e : n ≡ Is k) where
   unfolding Most
   forth-fits m = let l = m k e in record { sfits = omega arith }
 
-  pub forth-is : Most 2147483647 n → Command.goes (toZ w32 k) ≡ forth n
+  pub forth-is : (r : ℕ) → Most 2147483647 n → Command.goes r (toZ w32 k) ≡ forth r n
   unfolding Most
-  forth-is m = let l = m k e in rw (e, toZ-pos w32 k (omega arith)) refl
+  forth-is r m = let l = m k e in rw (e, toZ-pos w32 k (omega arith)) refl
 
   -- Back: a negative number, in the wider type first.
   zero-less : (j : ℕ) → pos 0 -ℤ pos (suc j) ≡ negsuc j
@@ -41,12 +41,12 @@ module _ (n : Number) (k : ℕ) (e : n ≡ Is k) where
   unfolding Most
   back-fits m = let l = m k e in rw (toZ-pos w64 k (omega arith), toZ-ofZ w64 (pos 0 -ℤ pos k) (less-wide k l)) (less-fits k l)
 
-  by : (j : ℕ) → (j ≡ 0 → ⊥) → Command.goes (pos 0 -ℤ pos j) ≡ backBy j
-  by zero z = absurd (z refl)
-  by (suc j) z = ap Command.goes (zero-less j)
+  by : (r j : ℕ) → (j ≡ 0 → ⊥) → Command.goes r (pos 0 -ℤ pos j) ≡ backBy r j
+  by r zero z = absurd (z refl)
+  by r (suc j) z = ap (Command.goes r) (zero-less j)
 
-  pub back-is : Most 2147483648 n → (k ≡ 0 → ⊥) → Command.goes (toZ w32 (ofZ w32 (toZ w64 (ofZ w64 (pos 0 -ℤ toZ w64 k))))) ≡ back n
+  pub back-is : (r : ℕ) → Most 2147483648 n → (k ≡ 0 → ⊥) → Command.goes r (toZ w32 (ofZ w32 (toZ w64 (ofZ w64 (pos 0 -ℤ toZ w64 k))))) ≡ back r n
   unfolding Most
-  back-is m z =
+  back-is r m z =
       let l = m k e in
-      rw (e, toZ-pos w64 k (omega arith), toZ-ofZ w64 (pos 0 -ℤ pos k) (less-wide k l), toZ-ofZ w32 (pos 0 -ℤ pos k) (less-fits k l)) (by k z)
+      rw (e, toZ-pos w64 k (omega arith), toZ-ofZ w64 (pos 0 -ℤ pos k) (less-wide k l), toZ-ofZ w32 (pos 0 -ℤ pos k) (less-fits k l)) (by r k z)

@@ -10,7 +10,7 @@ use Rattle.laws.proofs.Tests.{by-lt}
 use Rattle.laws.specs.Writes.{Wrote}
 use Rattle.laws.proofs.Writes.{wrote-length, wrote-then, room-then}
 use Rattle.lines.specs.Decimal.{decimalBy, decimal}
-use Rattle.lines.specs.Reply.{statusText, deniedText}
+use Rattle.lines.specs.Reply.{endText, statusText, tabText, deniedText}
 
 -- DECIMALS
 
@@ -61,12 +61,12 @@ module _ (at n m : ℕ) (room : at + length (decimal n) ≤ m) where
   pub room-more : 10 ≤ n → at + length (decimal (n / 10)) < m
   room-more l = omega (arith, ap length (decimal-more n l) ∙ length-append (decimal (n / 10)) ((48 + n % 10) ∷ []))
 
--- A STATUS LINE: two letters, then three numbers with a byte before each, then the newline.
+-- THE END OF A LINE: three numbers with a byte before each, then the newline.
 
 front-room : (k m : ℕ) (vs ws : List ℕ) → k + length (vs ++ ws) ≤ m → k + length vs ≤ m
 front-room k m vs ws l = omega (arith, rw length-append at l)
 
-module _ (old : List ℕ) (at a b n p s : ℕ) (room : at + length (statusText a b n p s) ≤ length old) where
+module _ (old : List ℕ) (at n p s : ℕ) (room : at + length (endText n p s) ≤ length old) where
   abbrev last : List ℕ
   last = 10 ∷ []
 
@@ -76,48 +76,82 @@ module _ (old : List ℕ) (at a b n p s : ℕ) (room : at + length (statusText a
   abbrev second : List ℕ
   second = (32 ∷ decimal p) ++ third
 
-  abbrev first : List ℕ
-  first = (32 ∷ decimal n) ++ second
-
-  all : at + length ((a ∷ b ∷ []) ++ first) ≤ length old
-  unfolding statusText
+  all : at + length ((32 ∷ decimal n) ++ second) ≤ length old
+  unfolding endText
   all = room
 
+  pub room-first : at + length (32 ∷ decimal n) ≤ length old
+  room-first = front-room at (length old) (32 ∷ decimal n) second all
+
+  module _ (m1 : List ℕ) (k1 : ℕ) (w1 : Wrote old at (32 ∷ decimal n) m1 k1) where
+    left1 : k1 + length second ≤ length m1
+    left1 = room-then old m1 (32 ∷ decimal n) second at k1 all w1
+
+    pub room-second : k1 + length (32 ∷ decimal p) ≤ length m1
+    room-second = front-room k1 (length m1) (32 ∷ decimal p) third left1
+
+    module _ (m2 : List ℕ) (k2 : ℕ) (w2 : Wrote m1 k1 (32 ∷ decimal p) m2 k2) where
+      left2 : k2 + length third ≤ length m2
+      left2 = room-then m1 m2 (32 ∷ decimal p) third k1 k2 left1 w2
+
+      pub room-third : k2 + length (47 ∷ decimal s) ≤ length m2
+      room-third = front-room k2 (length m2) (47 ∷ decimal s) last left2
+
+      module _ (m3 : List ℕ) (k3 : ℕ) (w3 : Wrote m2 k2 (47 ∷ decimal s) m3 k3) where
+        pub room-last : k3 < length m3
+        room-last = let l = room-then m2 m3 (47 ∷ decimal s) last k2 k3 left2 w3 in omega arith
+
+        pub wrote-end : (m4 : List ℕ) (k4 : ℕ) → Wrote m3 k3 (10 ∷ []) m4 k4 → Wrote old at (endText n p s) m4 k4
+        unfolding endText
+        wrote-end m4 k4 w4 =
+            wrote-then old m1 m4 (32 ∷ decimal n) second at k1 k4 w1
+            (wrote-then m1 m2 m4 (32 ∷ decimal p) third k1 k2 k4 w2 (wrote-then m2 m3 m4 (47 ∷ decimal s) last k2 k3 k4 w3 w4))
+
+-- A STATUS LINE: two letters, then the end.
+
+module _ (old : List ℕ) (at a b n p s : ℕ) (room : at + length (statusText a b n p s) ≤ length old) where
+  status-room : at + length ((a ∷ b ∷ []) ++ endText n p s) ≤ length old
+  unfolding statusText
+  status-room = room
+
   pub room-letters : at + 2 ≤ length old
-  room-letters = front-room at (length old) (a ∷ b ∷ []) first all
+  room-letters = front-room at (length old) (a ∷ b ∷ []) (endText n p s) status-room
 
   module _ (m1 : List ℕ) (k1 : ℕ) (w1 : Wrote old at (a ∷ b ∷ []) m1 k1) where
-    left1 : k1 + length first ≤ length m1
-    left1 = room-then old m1 (a ∷ b ∷ []) first at k1 all w1
+    pub room-end : k1 + length (endText n p s) ≤ length m1
+    room-end = room-then old m1 (a ∷ b ∷ []) (endText n p s) at k1 status-room w1
 
-    pub room-first : k1 + length (32 ∷ decimal n) ≤ length m1
-    room-first = front-room k1 (length m1) (32 ∷ decimal n) second left1
+    pub wrote-status : (m2 : List ℕ) (k2 : ℕ) → Wrote m1 k1 (endText n p s) m2 k2 → Wrote old at (statusText a b n p s) m2 k2
+    unfolding statusText
+    wrote-status m2 k2 w2 = wrote-then old m1 m2 (a ∷ b ∷ []) (endText n p s) at k1 k2 w1 w2
 
-    module _ (m2 : List ℕ) (k2 : ℕ) (w2 : Wrote m1 k1 (32 ∷ decimal n) m2 k2) where
-      left2 : k2 + length second ≤ length m2
-      left2 = room-then m1 m2 (32 ∷ decimal n) second k1 k2 left1 w2
+-- A NEW WINDOW: `ok`, a number, then the end.
 
-      pub room-second : k2 + length (32 ∷ decimal p) ≤ length m2
-      room-second = front-room k2 (length m2) (32 ∷ decimal p) third left2
+module _ (old : List ℕ) (at d f p s : ℕ) (room : at + length (tabText d f p s) ≤ length old) where
+  abbrev numbers : List ℕ
+  numbers = (32 ∷ decimal d) ++ endText f p s
 
-      module _ (m3 : List ℕ) (k3 : ℕ) (w3 : Wrote m2 k2 (32 ∷ decimal p) m3 k3) where
-        left3 : k3 + length third ≤ length m3
-        left3 = room-then m2 m3 (32 ∷ decimal p) third k2 k3 left2 w3
+  tab-room : at + length ((111 ∷ 107 ∷ []) ++ numbers) ≤ length old
+  unfolding tabText
+  tab-room = room
 
-        pub room-third : k3 + length (47 ∷ decimal s) ≤ length m3
-        room-third = front-room k3 (length m3) (47 ∷ decimal s) last left3
+  pub room-ok : at + 2 ≤ length old
+  room-ok = front-room at (length old) (111 ∷ 107 ∷ []) numbers tab-room
 
-        module _ (m4 : List ℕ) (k4 : ℕ) (w4 : Wrote m3 k3 (47 ∷ decimal s) m4 k4) where
-          pub room-last : k4 < length m4
-          room-last = let l = room-then m3 m4 (47 ∷ decimal s) last k3 k4 left3 w4 in omega arith
+  module _ (m1 : List ℕ) (k1 : ℕ) (w1 : Wrote old at (111 ∷ 107 ∷ []) m1 k1) where
+    after-ok : k1 + length numbers ≤ length m1
+    after-ok = room-then old m1 (111 ∷ 107 ∷ []) numbers at k1 tab-room w1
 
-          pub wrote-status : (m5 : List ℕ) (k5 : ℕ) → Wrote m4 k4 (10 ∷ []) m5 k5 → Wrote old at (statusText a b n p s) m5 k5
-          unfolding statusText
-          wrote-status m5 k5 w5 =
-              wrote-then old m1 m5 (a ∷ b ∷ []) first at k1 k5 w1
-              (wrote-then m1 m2 m5 (32 ∷ decimal n) second k1 k2 k5 w2
-              (wrote-then m2 m3 m5 (32 ∷ decimal p) third k2 k3 k5 w3
-              (wrote-then m3 m4 m5 (47 ∷ decimal s) last k3 k4 k5 w4 w5)))
+    pub room-document : k1 + length (32 ∷ decimal d) ≤ length m1
+    room-document = front-room k1 (length m1) (32 ∷ decimal d) (endText f p s) after-ok
+
+    module _ (m2 : List ℕ) (k2 : ℕ) (w2 : Wrote m1 k1 (32 ∷ decimal d) m2 k2) where
+      pub room-frame : k2 + length (endText f p s) ≤ length m2
+      room-frame = room-then m1 m2 (32 ∷ decimal d) (endText f p s) k1 k2 after-ok w2
+
+      pub wrote-tab : (m3 : List ℕ) (k3 : ℕ) → Wrote m2 k2 (endText f p s) m3 k3 → Wrote old at (tabText d f p s) m3 k3
+      unfolding tabText
+      wrote-tab m3 k3 w3 = wrote-then old m1 m3 (111 ∷ 107 ∷ []) numbers at k1 k3 w1 (wrote-then m1 m2 m3 (32 ∷ decimal d) (endText f p s) k1 k2 k3 w2 w3)
 
 -- A REFUSAL THAT CARRIES A DOCUMENT: `no`, a number, a blank, and a status line.
 
@@ -179,14 +213,27 @@ decimal-within (suc k) n l =
     let h = decimal-within k (n / 10) (omega arith) in
     omega (arith, ap length (decimal-more n a) ∙ length-append (decimal (n / 10)) ((48 + n % 10) ∷ [])))
 
--- A status line whose last two numbers are of 64 bits, by the digits of its first.
-pub status-about : (a b n p s : ℕ) → p < tens 20 → s < tens 20 → length (statusText a b n p s) ≤ 46 + length (decimal n)
-unfolding statusText
-status-about a b n p s y z =
+-- The end of a line whose last two numbers are of 64 bits, by the digits of its first.
+end-about : (n p s : ℕ) → p < tens 20 → s < tens 20 → length (endText n p s) ≤ 44 + length (decimal n)
+unfolding endText
+end-about n p s y z =
     let j = decimal-within 19 p y in
     let k = decimal-within 19 s z in
     simp length-append (omega arith)
 
--- A status line of three numbers of 64 bits has at most 66 bytes: "enough room" for any answer.
+-- So a status line, and what tells a new window with numbers of 32 bits.
+pub status-about : (a b n p s : ℕ) → p < tens 20 → s < tens 20 → length (statusText a b n p s) ≤ 46 + length (decimal n)
+unfolding statusText
+status-about a b n p s y z = let e = end-about n p s y z in simp length-append (omega arith)
+
+pub tab-within : (d f p s : ℕ) → d < tens 10 → f < tens 10 → p < tens 20 → s < tens 20 → length (tabText d f p s) ≤ 67
+unfolding tabText
+tab-within d f p s x w y z =
+    let e = end-about f p s y z in
+    let j = decimal-within 9 d x in
+    let k = decimal-within 9 f w in
+    simp length-append (omega arith)
+
+-- A status line of three numbers of 64 bits has at most 66 bytes.
 pub status-within : (a b n p s : ℕ) → n < tens 20 → p < tens 20 → s < tens 20 → length (statusText a b n p s) ≤ 66
 status-within a b n p s x y z = omega (arith, status-about a b n p s y z, decimal-within 19 n x)

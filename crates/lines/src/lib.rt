@@ -9,19 +9,20 @@ ghost use mathlib.Core.Path.{_≡_};
 ghost use Prim.Native.Nat.{_+_, _-_, _<_, _≤_};
 ghost use lib.ListN.{length};
 ghost use Rattle.lines.specs.Decimal.{decimal, digit?, leadingZero?, digits?, decimal?, spelled as spelledBy, upTo, numeral as numeralOf};
-ghost use Rattle.lines.specs.Lines.{starts? as startsWith, minus?, opening as openingOf, navigating as navigatingOf, dropping as droppingOf, replacement as replacementOf, forth as forthOf, back as backOf, going as goingOf, otherWord, worded as wordedOf, parse as parseOf, commandIs};
+ghost use Rattle.lines.specs.Lines.{starts? as startsWith, minus?, opening as openingOf, navigating as navigatingOf, dropping as droppingOf, replacement as replacementOf, forth as forthOf, back as backOf, goingBy as goingByOf, blankAt, rootNamed, going as goingOf, tab?, otherWord, worded as wordedOf, parse as parseOf, commandIs};
 ghost use Rattle.laws.specs.Writes.{Wrote};
 ghost use Rattle.base.specs.Numbers.{numberOf, carriedBy};
-ghost use Rattle.lines.specs.Reply.{replyIs, statusText, deniedText, answerText};
+ghost use Rattle.lines.specs.Reply.{replyIs, endText, statusText, tabText, deniedText, answerText};
 ghost use Rattle.lines.specs.Bounds.{Most};
 
 // What a line asks.
 pub enum Command {
     Open(DocNo),
     Nav(DocNo),
-    Go(i32),
+    Go(FrameNo, i32),
     Drop(FrameNo),
     Replace(DocNo),
+    Tab,
     Bad,
 }
 
@@ -31,9 +32,10 @@ pub enum Number {
     Nothing,
 }
 
-// An answer: a number or a refusal, then position and steps.
+// An answer: a number, a new window's document and root frame, or a refusal, then position and steps.
 pub enum Reply {
     Ok(usize, usize, usize),
+    Tab(DocNo, FrameNo, usize, usize),
     No(Refusal, usize, usize),
     Bad,
 }
@@ -177,21 +179,21 @@ fn replacement(n: Number) -> Command
     }
 }
 
-// The command to go forward.
-fn forth(n: Number) -> Command
+// The command to go forward in a window.
+fn forth(root: FrameNo, n: Number) -> Command
     requires { ⌜ Most 2147483647 n ⌝ }
-    ensures { λ r. ⌜ commandIs r ≡ forthOf n ⌝ }
+    ensures { λ r. ⌜ commandIs r ≡ forthOf (root .0) n ⌝ }
 {
     match n {
-        Number::Is(k) => Command::Go(k as i32),
+        Number::Is(k) => Command::Go(root, k as i32),
         Number::Nothing => Command::Bad,
     }
 }
 
-// The command to go back: never by zero.
-fn back(n: Number) -> Command
+// The command to go back in a window: never by zero.
+fn back(root: FrameNo, n: Number) -> Command
     requires { ⌜ Most 2147483648 n ⌝ }
-    ensures { λ r. ⌜ commandIs r ≡ backOf n ⌝ }
+    ensures { λ r. ⌜ commandIs r ≡ backOf (root .0) n ⌝ }
 {
     match n {
         Number::Is(k) => {
@@ -199,7 +201,7 @@ fn back(n: Number) -> Command
                 return Command::Bad;
             }
             let wide = k as i64;
-            Command::Go((0 - wide) as i32)
+            Command::Go(root, (0 - wide) as i32)
         }
         Number::Nothing => Command::Bad,
     }
@@ -215,16 +217,63 @@ fn has_minus(text: &[u8]) -> bool
     text[0] == b'-'
 }
 
+// What a text asks that is the amount to go by in a window.
+fn going_by(root: FrameNo, text: &[u8]) -> Command
+    ensures { λ r. ⌜ commandIs r ≡ goingByOf (root .0) (now (text .entry)) ⌝ }
+{
+    if has_minus(text) {
+        let n = numeral(&text[1..], 2147483648);
+        return back(root, n);
+    }
+    let n = numeral(text, 2147483647);
+    forth(root, n)
+}
+
+// The place of a text's first blank, its end where it has none.
+fn blank_at(text: &[u8]) -> usize
+    ensures { λ r. ⌜ r ≡ blankAt (now (text .entry)) ⌝ }
+{
+    let mut i = 0;
+    while i < text.len() {
+        if text[i] == b' ' {
+            return i;
+        }
+        i += 1;
+    }
+    text.len()
+}
+
+// The root frame that a text names after its first blank, 0 where it has none.
+fn root_named(text: &[u8], at: usize) -> Number
+    requires { ⌜ at ≡ blankAt (now text) ⌝ }
+    ensures { λ r. ⌜ r ≡ rootNamed (now (text .entry)) ⌝ }
+{
+    if at < text.len() {
+        let from = at + 1;
+        return numeral(&text[from..], 4294967295);
+    }
+    Number::Is(0)
+}
+
 // What the text after `go ` asks.
 fn going(text: &[u8]) -> Command
     ensures { λ r. ⌜ commandIs r ≡ goingOf (now (text .entry)) ⌝ }
 {
-    if has_minus(text) {
-        let n = numeral(&text[1..], 2147483648);
-        return back(n);
+    let at = blank_at(text);
+    match root_named(text, at) {
+        Number::Is(root) => going_by(FrameNo(root), &text[0..at]),
+        Number::Nothing => Command::Bad,
     }
-    let n = numeral(text, 2147483647);
-    forth(n)
+}
+
+// Whether a line is `tab`, with nothing after it.
+fn is_tab(line: &[u8]) -> bool
+    ensures { λ r. ⌜ r ≡ tab? (now (line .entry)) ⌝ }
+{
+    if line.len() != 3 {
+        return false;
+    }
+    starts(line, b"tab")
 }
 
 // What a line asks by a first word that is none of `open`, `nav` and `go`.
@@ -236,6 +285,9 @@ fn other_word(line: &[u8]) -> Command
     }
     if starts(line, b"replace ") {
         return replacement(numeral(&line[8..], 4294967295));
+    }
+    if is_tab(line) {
+        return Command::Tab;
     }
     Command::Bad
 }
@@ -314,6 +366,17 @@ fn put_letters(out: &mut [u8], at: usize, a: u8, b: u8) -> usize
     at + 2
 }
 
+// Writes a number, position/steps, and the newline.
+fn put_end(out: &mut [u8], at: usize, n: usize, position: usize, steps: usize) -> usize
+    requires { ⌜ at + length (endText n position steps) ≤ length (now out) ⌝ }
+    ensures { λ r. ⌜ Wrote (now (out .entry)) at (endText n position steps) (now (out .exit)) r ⌝ }
+{
+    let i = put_number(out, at, b' ', n);
+    let j = put_number(out, i, b' ', position);
+    let k = put_number(out, j, b'/', steps);
+    put_byte(out, k, 10)
+}
+
 // Writes two letters, a number, position/steps, and the newline.
 fn put_status(
     out: &mut [u8],
@@ -328,10 +391,17 @@ fn put_status(
     ensures { λ r. ⌜ Wrote (now (out .entry)) at (statusText a b n position steps) (now (out .exit)) r ⌝ }
 {
     let i = put_letters(out, at, a, b);
-    let j = put_number(out, i, b' ', n);
-    let k = put_number(out, j, b' ', position);
-    let l = put_number(out, k, b'/', steps);
-    put_byte(out, l, 10)
+    put_end(out, i, n, position, steps)
+}
+
+// Writes what tells a new window: `ok D F`, position/steps, and the newline.
+fn put_tab(out: &mut [u8], at: usize, d: DocNo, f: FrameNo, position: usize, steps: usize) -> usize
+    requires { ⌜ at + length (tabText (d .0) (f .0) position steps) ≤ length (now out) ⌝ }
+    ensures { λ r. ⌜ Wrote (now (out .entry)) at (tabText (d .0) (f .0) position steps) (now (out .exit)) r ⌝ }
+{
+    let i = put_letters(out, at, b'o', b'k');
+    let j = put_number(out, i, b' ', d.0 as usize);
+    put_end(out, j, f.0 as usize, position, steps)
 }
 
 // Writes a refusal that carries a document: `no K at D`, position/steps, and the newline.
@@ -376,6 +446,7 @@ pub fn put_answer(out: &mut [u8], at: usize, reply: Reply) -> usize
 {
     match reply {
         Reply::Ok(v, p, s) => put_status(out, at, b'o', b'k', v, p, s),
+        Reply::Tab(d, f, p, s) => put_tab(out, at, d, f, p, s),
         Reply::No(r, p, s) => put_refusal(out, at, r, p, s),
         Reply::Bad => put_bad(out, at),
     }

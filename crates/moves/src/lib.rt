@@ -1,4 +1,4 @@
-// Fresh and Open.
+// Fresh, Open, and a further window.
 use asks::Sight;
 use base::DocNo;
 use base::FrameNo;
@@ -11,7 +11,7 @@ ghost use mathlib.Core.List.{[], _∷_};
 ghost use Rattle.rules.specs.Calls.{Call, outcome};
 ghost use Rattle.sound.specs.Check.{Examined, Settles, Judged};
 ghost use Rattle.sound.specs.declared.Check.the-variants.{Sound};
-ghost use Rattle.moves.specs.Answers.{freshIs, openedIs, roomRungs};
+ghost use Rattle.moves.specs.Answers.{freshIs, openedIs, roomRungs, Appended};
 
 // What Fresh answers.
 pub enum Freshened {
@@ -33,7 +33,7 @@ pub fn fresh(words: &mut [u32]) -> Freshened
     Freshened::Done
 }
 
-// What Open answers: the numbers of the new document and its frame.
+// What Open and Tab answer: the numbers of the new document and its frame.
 pub enum Opened {
     Numbers(DocNo, FrameNo),
     Refused(Refusal),
@@ -77,10 +77,20 @@ fn judge_open(words: &[u32], parent: DocNo) -> Check
     }
 }
 
-// Appends the first row of a new frame.
-fn append_child(words: &mut [u32], parent: DocNo) -> Opened
-    requires { ⌜ Judged (Call.Open (now words) (parent .0)) Sound ⌝ }
-    ensures { λ r. ⌜ outcome (Call.Open (now (words .entry)) (parent .0)) ≡ record { answer = openedIs r; lent = now (words .exit) ∷ [] } ⌝ }
+// Whether a window may be opened.
+fn judge_window(words: &[u32]) -> Check
+    ensures { λ r. ⌜ Judged (Call.Tab (now (words .entry))) r ⌝ }
+{
+    match sound::examine(words) {
+        Check::No(r) => Check::No(r),
+        Check::Sound => judge_room(words),
+    }
+}
+
+// Appends the first row of a new frame: under a document, or of a window.
+fn append_frame(words: &mut [u32], parent: DocNo) -> Opened
+    requires { ⌜ Judged (Call.Tab (now words)) Sound ⌝ }
+    ensures { λ r. ⌜ Appended (now (words .entry)) (parent .0) r (now (words .exit)) ⌝ }
 {
     let n = rows::row_count(words);
     let d = rows::next_document(words);
@@ -96,6 +106,16 @@ pub fn open_frame(words: &mut [u32], parent: DocNo) -> Opened
 {
     match judge_open(words, parent) {
         Check::No(r) => Opened::Refused(r),
-        Check::Sound => append_child(words, parent),
+        Check::Sound => append_frame(words, parent),
+    }
+}
+
+// Opens a window: a root frame with one document.
+pub fn open_window(words: &mut [u32]) -> Opened
+    ensures { λ r. ⌜ outcome (Call.Tab (now (words .entry))) ≡ record { answer = openedIs r; lent = now (words .exit) ∷ [] } ⌝ }
+{
+    match judge_window(words) {
+        Check::No(r) => Opened::Refused(r),
+        Check::Sound => append_frame(words, DocNo(NONE)),
     }
 }

@@ -1,5 +1,10 @@
+pub mod Room
 pub mod Judges
 pub mod Stays
 pub mod Gaps
 pub mod Settled
 pub mod Turns
+pub mod Looks
+pub mod Search
+pub mod Beside
+pub mod Leaves

@@ -9,15 +9,17 @@ use lib.ListN.{length, set}
 use borrow.Author.Tests.{eq-eqb, ne-eqb}
 use Rattle.rules.specs.Below.{someBelow}
 use Rattle.rules.specs.Rows.{Row, none, noRow, rowAt, docAt, frameAt, parentAt, shownAt, isShown, isDoc, place, flag}
-use Rattle.rules.specs.Steps.{upcoming}
-use Rattle.rules.specs.Moves.{without, cleared, hide, navigated}
+use Rattle.rules.specs.Windows.{rootAt}
+use Rattle.rules.specs.Moves.{without, hide, upcomingIn, cleared, navigated}
 use Rattle.rules.specs.Words.{put, capacity, tableOf, rowsOf, written}
 use Rattle.laws.proofs.Tests.{some-in, gather-from}
 use Rattle.laws.proofs.Flags.{flag-back, flags-length, flags-row}
 use Rattle.laws.proofs.Tree.{distinct, place-is, Alike, alike}
-use Rattle.laws.proofs.Removal.{SoundRows, sound-rows, stays, cleared-removed}
-use Rattle.laws.proofs.Navigate.{stayed}
+use Rattle.laws.proofs.Removal.{stays}
 use Rattle.laws.proofs.Accepted.{Navigates}
+use Rattle.windows.proofs.Window.{WideRows, wide-rows}
+use Rattle.windows.proofs.Without.{cleared-sound}
+use Rattle.windows.proofs.Navigated.{row, stayed}
 use Rattle.reads.specs.Within.{Before, Within}
 use Rattle.packs.specs.Packing.{Over}
 use Rattle.packs.proofs.Over.{over-length, over-capacity, over-fits, over-row, over-more, set-only, over-set}
@@ -50,14 +52,18 @@ module _ (old : List ℕ) (d : ℕ) (f : Navigates old d) (word : tableOf old .n
   abbrev rows : List Row
   rows = rowsOf old
 
+  -- d's window.
+  abbrev r : ℕ
+  r = rootAt rows (place rows d)
+
   abbrev c : List Row
-  c = cleared rows
+  c = cleared r rows
 
-  sound-in : SoundRows rows (tableOf old .nextDoc) (tableOf old .nextFrame)
-  sound-in = sound-rows (f .sound .table) word
+  sound-in : WideRows rows (tableOf old .nextDoc) (tableOf old .nextFrame)
+  sound-in = wide-rows (f .sound .table) word
 
-  clear-sound : SoundRows c (tableOf old .nextDoc) (tableOf old .nextFrame)
-  clear-sound = cleared-removed rows sound-in .sound
+  clear-sound : WideRows c (tableOf old .nextDoc) (tableOf old .nextFrame)
+  clear-sound = cleared-sound rows sound-in r
 
   fits : length rows ≤ capacity old
   fits = f .sound .table .s1 .fits
@@ -66,12 +72,12 @@ module _ (old : List ℕ) (d : ℕ) (f : Navigates old d) (word : tableOf old .n
   the-row : (q : ℕ) → q < length c → docAt c q ≡ d → rowAt c q ≡ rowAt rows (place rows d)
   unfolding without
   the-row q l e =
-      let r = gather-from (stays (upcoming rows) rows) (rowAt rows) (length rows) q noRow l in
-      r .4 ∙ ap (rowAt rows) (sym (place-is rows (sound-in .tree) (r .0) d (r .1) (ap (λ x. x .doc) (sym (r .4)) ∙ e)))
+      let m = gather-from (stays (upcomingIn r rows) rows) (rowAt rows) (length rows) q noRow l in
+      m .4 ∙ ap (rowAt rows) (sym (place-is rows (sound-in .tree) (m .0) d (m .1) (ap (λ x. x .doc) (sym (m .4)) ∙ e)))
 
   module _ (k : ℕ) (packed : List ℕ) (is : Over c old k packed) where
     few : k ≤ length rows
-    few = omega (arith, is .count-is, without-fewer (upcoming rows) rows)
+    few = omega (arith, is .count-is, without-fewer (upcomingIn r rows) rows)
 
     packed-fits : length (rowsOf packed) ≤ capacity packed
     packed-fits = over-fits c old k packed is fits
@@ -84,7 +90,7 @@ module _ (old : List ℕ) (d : ℕ) (f : Navigates old d) (word : tableOf old .n
     still-there =
         let s = stayed (tableOf old) sound-in (f .doc) d (f .seen) in
         let l : s .0 < k = subst (λ x. s .0 < x) (sym (is .count-is)) (s .1) in
-        some-in (isDoc (rowsOf packed) d) k l (eq-eqb _ _ (ap (λ r. r .doc) (row-there (s .0) l ∙ s .2) ∙ s .3))
+        some-in (isDoc (rowsOf packed) d) k l (eq-eqb _ _ (ap (λ x. x .doc) (row-there (s .0) l) ∙ s .2 .d ∙ row (tableOf old) sound-in (f .doc) d (f .seen) .2))
 
     -- What the search for d's row and the settling may rely on.
     pub place-asks : Before packed k × So (someBelow k (isDoc (rowsOf packed) d))
@@ -92,7 +98,7 @@ module _ (old : List ℕ) (d : ℕ) (f : Navigates old d) (word : tableOf old .n
 
     pub settle-asks : (q n e : ℕ) → n ≡ length rows → e ≡ tableOf old .nextDoc → q < k → Within packed q × (k < capacity packed) × (n ≤ capacity packed) × (e < none)
     settle-asks q n e b g l =
-        let r = f .roomy in
+        let z = f .roomy in
         let u = f .doc in
         let cap = over-capacity c old k packed is in
         (record { fits = packed-fits; below = omega (arith, over-length c old k packed is, few) }, omega (arith, is .count-is), omega (arith, fits), omega (arith, word))
@@ -102,7 +108,7 @@ module _ (old : List ℕ) (d : ℕ) (f : Navigates old d) (word : tableOf old .n
       inside = omega (arith, is .count-is)
 
       doc-there : docAt c q ≡ d
-      doc-there = ap (λ r. r .doc) (sym (row-there q l)) ∙ found
+      doc-there = ap (λ x. x .doc) (sym (row-there q l)) ∙ found
 
       -- Its row hidden.
       hidden-is : Over (hide d c) old k (put packed (6 + 4 * q) (0 ∷ []))
@@ -125,7 +131,7 @@ module _ (old : List ℕ) (d : ℕ) (f : Navigates old d) (word : tableOf old .n
       settled-here : (n : ℕ) → n ≡ length rows → settled packed q k n (tableOf old .nextDoc) (tableOf old .nextFrame) ≡ written old (navigated (tableOf old) d)
       unfolding settled navigated
       settled-here n b =
-          ended-is (hide d c ++ comes ∷ []) old (k + 1) _ added-is (f .sound) (let r = f .roomy in omega (arith, is .count-is)) n (tableOf old .nextDoc + 1) (tableOf old .nextFrame) b
+          ended-is (hide d c ++ comes ∷ []) old (k + 1) _ added-is (f .sound) (let z = f .roomy in omega (arith, is .count-is)) n (tableOf old .nextDoc + 1) (tableOf old .nextFrame) b
           ∙ ap (λ m. written old (record { rows = hide d c ++ comes ∷ []; nextDoc = m; nextFrame = tableOf old .nextFrame })) (add-one (tableOf old .nextDoc))
 
     -- What settling leaves.

@@ -1,21 +1,22 @@
--- The loop of a removal that keeps in mind a parent that stays and one that goes. Assumes nothing.
-use Prim.Native.Nat.{ℕ, _+_, _≤_, _<_}
+-- The loop of a removal that keeps in mind parents that stay and one that goes. Assumes nothing.
+use Prim.Native.Nat.{ℕ, _+_, _-_, _≤_, _<_}
 use mathlib.Core.Bool.{Bool, true, false, not, _&&_, _||_, So, cond}
 use mathlib.Core.List.{List}
 use mathlib.Core.Logic.{_≢_, _⊎_, inl, inr, ⊎-elim}
-use mathlib.Core.Path.{_≡_, refl, sym, ap, _∙_}
+use mathlib.Core.Path.{_≡_, refl, sym, ap, subst, _∙_}
 use native.Mathlib.Omega.{arith}
+use lib.Dec.{eqb}
 use lib.ListN.{length}
-use borrow.Author.Tests.{ne-eqb}
+use borrow.Author.Tests.{eqb-false, ne-eqb}
 use Rattle.rules.specs.Below.{someBelow}
 use Rattle.rules.specs.Rows.{Row, none, docAt, parentAt, isDoc}
 use Rattle.rules.specs.Moves.{without}
 use Rattle.rules.specs.Words.{capacity, rowsOf}
-use Rattle.laws.proofs.Tests.{test, clash, off}
+use Rattle.laws.proofs.Tests.{test, clash, off, nth}
 use Rattle.laws.proofs.Tree.{TreeOf, distinct, Alike}
-use Rattle.laws.proofs.Removal.{stays}
+use Rattle.laws.proofs.Removal.{stays, stays-up}
 use Rattle.reads.specs.Within.{Within}
-use Rattle.packs.specs.Packing.{docKept, parentKept, Knows, Turn, Over}
+use Rattle.packs.specs.Packing.{docKept, parentKept, lastParent, Knows, Turn, Over}
 use Rattle.packs.specs.declared.Keeping.{Keeping}
 use Rattle.packs.proofs.Packed.{Packed, Sees, packed-within, packed-sees}
 use Rattle.packs.proofs.Stays.{held-stays, doc-told}
@@ -45,8 +46,11 @@ module _ (q : ℕ → Bool) (old : List ℕ) {a b : ℕ} (tree : TreeOf (rowsOf 
   pub parent-stays : (i : ℕ) → i < length rows → ((j : ℕ) → j < i → docAt rows j ≡ parentAt rows i → So (keep j)) → StaysBefore q rows i (parentAt rows i)
   parent-stays i l h = ⊎-elim (λ z. inl z) (λ r. inr (r .0, r .1, h (r .0) (r .1) (r .2), r .2)) (tree .placed i l)
 
+  stays-on : {i j d : ℕ} → i ≤ j → StaysBefore q rows i d → StaysBefore q rows j d
+  stays-on m h = ⊎-elim (λ z. inl z) (λ r. let l = r .1 in inr (r .0, omega arith, r .2, r .3)) h
+
   pub stays-later : {i d : ℕ} → StaysBefore q rows i d → StaysBefore q rows (i + 1) d
-  stays-later h = ⊎-elim (λ z. inl z) (λ r. let l = r .1 in inr (r .0, omega arith, r .2, r .3)) h
+  stays-later {i} h = stays-on {j = i + 1} (omega arith) h
 
   -- The document of a row that goes stays nowhere.
   pub goes-nowhere : (i : ℕ) → i < length rows → keep i ≡ false → docAt rows i ≢ none → StaysNowhere q rows (docAt rows i)
@@ -63,9 +67,26 @@ module _ (q : ℕ → Bool) (old : List ℕ) {a b : ℕ} (tree : TreeOf (rowsOf 
     pub turn-row : Alike (rowsOf new) i rows i
     turn-row = sees .here
 
-    found-kept : docKept (rowsOf new) (kept .rows) (kept .found .0) ≡ true
+    -- What stays before the row is kept.
+    stays-kept : (d : ℕ) → StaysBefore q rows i d → docKept (rowsOf new) (kept .rows) d ≡ true
     unfolding docKept
-    found-kept = ⊎-elim (λ z. rw z refl) (λ r. ap (docKept (rowsOf new) (kept .rows)) (sym (r .3)) ∙ told (r .0) (r .1) ∙ r .2) (t .found-is)
+    stays-kept d h = ⊎-elim (λ z. rw z refl) (λ r. ap (docKept (rowsOf new) (kept .rows)) (sym (r .3)) ∙ told (r .0) (r .1) ∙ r .2) h
+
+    -- The parent of a row kept stays.
+    kept-parent : (m : ℕ) → m < kept .rows → StaysBefore q rows i (parentAt (rowsOf new) m)
+    kept-parent m b =
+        let j = nth keep i m (subst (λ x. m < x) (sees .count-is) b) in
+        let k : j .0 < length rows = omega (arith, j .1) in
+        subst (StaysBefore q rows i) (sym (sees .moved (j .0) (j .1) (j .2) .p) ∙ ap (parentAt (rowsOf new)) (j .3))
+        (stays-on (omega (arith, j .1)) (parent-stays (j .0) k (λ u v e. stays-up q rows tree u (j .0) v k e (j .2))))
+
+    abbrev last : ℕ
+    last = lastParent (rowsOf new) (kept .rows) (kept .found .0)
+
+    -- So does that of the last row kept, or the one found where none is.
+    last-stays : StaysBefore q rows i last
+    unfolding lastParent
+    last-stays = test (eqb (kept .rows) 0) (λ z. rw z (t .found-is)) (λ f. rw f (kept-parent (kept .rows - 1) (omega (arith, eqb-false (kept .rows) 0 f))))
 
     missed-gone : docKept (rowsOf new) (kept .rows) (kept .missed .0) ≡ false
     unfolding docKept
@@ -79,7 +100,7 @@ module _ (q : ℕ → Bool) (old : List ℕ) {a b : ℕ} (tree : TreeOf (rowsOf 
     pub turn-asks : Within new i × Knows (rowsOf new) i kept
     turn-asks =
         let w = packed-within keep old i (kept .rows) new (t .packed) fits l in
-        (w .0, record { few = w .1; found-is = found-kept; missed-is = missed-gone })
+        (w .0, record { few = w .1; last-is = stays-kept last last-stays; found-is = stays-kept (kept .found .0) (t .found-is); missed-is = missed-gone })
 
     -- By whether the parent is kept.
     abbrev up : Bool
@@ -88,12 +109,9 @@ module _ (q : ℕ → Bool) (old : List ℕ) {a b : ℕ} (tree : TreeOf (rowsOf 
     up-is : up ≡ docKept (rowsOf new) (kept .rows) (parentAt rows i)
     up-is = ap (docKept (rowsOf new) (kept .rows)) (sees .here .p)
 
-    found-next : (v : Bool) → StaysBefore q rows (i + 1) (cond (not v && up) (parentAt (rowsOf new) i) (kept .found .0))
-    found-next true = stays-later (t .found-is)
-    found-next false =
-        test up
-        (λ y. rw (y, sees .here .p) (stays-later (parent-stays i l (λ j m e. sym (told j m) ∙ ap (docKept (rowsOf new) (kept .rows)) e ∙ sym up-is ∙ y))))
-        (λ n. rw n (stays-later (t .found-is)))
+    found-next : (c : Bool) → StaysBefore q rows (i + 1) (cond c last (kept .found .0))
+    found-next true = stays-later last-stays
+    found-next false = stays-later (t .found-is)
 
     missed-next : (v : Bool) → StaysNowhere q rows (cond (v || up) (kept .missed .0) (parentAt (rowsOf new) i))
     unfolding docKept
@@ -116,7 +134,7 @@ module _ (q : ℕ → Bool) (old : List ℕ) {a b : ℕ} (tree : TreeOf (rowsOf 
     turn-done v next left e m =
         record {
           packed = gaps-more q old i (kept .rows) new (t .packed) tree fits l _ (next .rows) left (ap (λ c. not c && up) e) (m .moved);
-          found-is = rw (m .found-is) (found-next v);
+          found-is = rw (m .found-is) (found-next (not v && (not (eqb (parentAt (rowsOf new) i) last) && up)));
           missed-is = rw (m .missed-is) (missed-next v);
         }
 

@@ -5,3 +5,5 @@ pub mod Gaps
 pub mod Known
 pub mod Ended
 pub mod Turns
+pub mod Starts
+pub mod Ends

@@ -23,16 +23,23 @@ pub record Moved (stays : Bool) (old : List ℕ) (i k next : ℕ) (new : List �
   pub next-is : next ≡ cond stays (k + 1) k
   pub words-are : new ≡ cond stays (put old (3 + 4 * k) (rowWords (rowAt (rowsOf old) i))) old
 
--- What a turn at row i may rely on: no more rows are kept than come before, and of two documents it is known whether the rows kept hold them.
+-- The parent of the last of the first k rows; where there is none, another document.
+unfoldable pub lastParent : List Row → ℕ → ℕ → ℕ
+lastParent rows k other = cond (eqb k 0) other (parentAt rows (k - 1))
+
+-- What a turn at row i may rely on: no more rows are kept than come before, the parent of the last of them is kept, and of two documents more it is known whether the rows kept hold them.
 pub record Knows (rows : List Row) (i : ℕ) (kept : Keeping) : Type 0 where
   pub few : kept .rows ≤ i
+  pub last-is : docKept rows (kept .rows) (lastParent rows (kept .rows) (kept .found .0)) ≡ true
   pub found-is : docKept rows (kept .rows) (kept .found .0) ≡ true
   pub missed-is : docKept rows (kept .rows) (kept .missed .0) ≡ false
 
--- A turn at row i, which goes if it passes or its parent is not kept. Of a row that does not pass the parent is then the one found, or the one missed.
+-- A turn at row i, which goes if it passes or its parent is not kept. Where it stays and has another parent than the last row kept, that one's is then the one found;
+-- where it goes and does not pass, its own is the one missed.
 pub record Turn (passes : Bool) (old : List ℕ) (i : ℕ) (kept next : Keeping) (new : List ℕ) : Type 0 where
   pub moved : Moved (not passes && parentKept (rowsOf old) (kept .rows) i) old i (kept .rows) (next .rows) new
-  pub found-is : next .found .0 ≡ cond (not passes && parentKept (rowsOf old) (kept .rows) i) (parentAt (rowsOf old) i) (kept .found .0)
+  pub found-is : next .found .0 ≡ cond (not passes && (not (eqb (parentAt (rowsOf old) i) (lastParent (rowsOf old) (kept .rows) (kept .found .0))) && parentKept (rowsOf old) (kept .rows) i))
+      (lastParent (rowsOf old) (kept .rows) (kept .found .0)) (kept .found .0)
   pub missed-is : next .missed .0 ≡ cond (passes || parentKept (rowsOf old) (kept .rows) i) (kept .missed .0) (parentAt (rowsOf old) i)
 
 -- The k rows put over the first ones of a record; every other word stays.

@@ -13,11 +13,11 @@ use Rattle.rules.specs.Moves.{without, isChild, named, renamed, replaced}
 use Rattle.rules.specs.Words.{put, capacity, tableOf, rowsOf, written}
 use Rattle.laws.proofs.Tests.{some-in, count-in}
 use Rattle.laws.proofs.Kept.{kept-row, kept-length}
-use Rattle.laws.proofs.Tree.{distinct}
+use Rattle.laws.proofs.Tree.{TreeOf, tree-of, distinct}
 use Rattle.laws.proofs.Reflect.{record-is}
-use Rattle.laws.proofs.Removal.{SoundRows, sound-rows}
-use Rattle.laws.proofs.Replace.{staysOver, renamed-length, renamed-row, children-removed, stays-upto, place-upto}
+use Rattle.laws.proofs.Replace.{staysOver, renamed-length, renamed-row, stays-upto, place-upto}
 use Rattle.laws.proofs.Accepted.{Replaces}
+use Rattle.windows.proofs.Without.{without-tree}
 use Rattle.reads.specs.Within.{Before}
 use Rattle.packs.specs.Packing.{Over, ended}
 use Rattle.packs.proofs.Over.{set-only, over-size, over-capacity, over-set}
@@ -41,11 +41,11 @@ module _ (old : List ℕ) (d : ℕ) (f : Replaces old d) (word : tableOf old .ne
   abbrev c : List Row
   c = without (isChild rows d) rows
 
-  sound-in : SoundRows rows (tableOf old .nextDoc) (tableOf old .nextFrame)
-  sound-in = sound-rows (f .sound .table) word
+  tree : TreeOf rows (tableOf old .nextDoc) (tableOf old .nextFrame)
+  tree = tree-of (f .sound .table) word
 
-  left-sound : SoundRows c (tableOf old .nextDoc) (tableOf old .nextFrame)
-  left-sound = children-removed (tableOf old) d sound-in .sound
+  left-tree : TreeOf c (tableOf old .nextDoc) (tableOf old .nextFrame)
+  left-tree = without-tree rows tree (isChild rows d)
 
   fits : length rows ≤ capacity old
   fits = f .sound .table .s1 .fits
@@ -65,8 +65,8 @@ module _ (old : List ℕ) (d : ℕ) (f : Replaces old d) (word : tableOf old .ne
     unfolding without
     row-there =
         let keep = staysOver d rows in
-        let e = place-upto (tableOf old) d sound-in p within there p (omega arith) in
-        let s = stays-upto (tableOf old) d sound-in p within there p (omega arith) in
+        let e = place-upto rows tree d p within there p (omega arith) in
+        let s = stays-upto rows tree d p within there p (omega arith) in
         (omega (arith, kept-length keep rows, count-in keep (length rows) within s), ap (rowAt c) (sym e) ∙ kept-row keep rows p within s)
 
     module _ (k : ℕ) (packed : List ℕ) (is : Over c old k packed) where
@@ -83,7 +83,7 @@ module _ (old : List ℕ) (d : ℕ) (f : Replaces old d) (word : tableOf old .ne
           let e : docAt c p ≡ d = ap (λ x. x .doc) (r .1) ∙ there in
           let z : 3 + (4 * p + 0) ≡ 3 + 4 * p = omega arith in
           subst₂ (λ rs j. Over rs old k (put packed j (m ∷ [])))
-          (renamed-is c p d m (r .0) e (λ i l q. distinct (left-sound .tree) i p l (r .0) (q ∙ sym e))) z
+          (renamed-is c p d m (r .0) e (λ i l q. distinct left-tree i p l (r .0) (q ∙ sym e))) z
           (over-set c old k packed is p 0 m (named m (rowAt c p)) (omega (arith, r .0, is .count-is)) (omega arith) refl)
 
       module _ (m : ℕ) (w : List ℕ) (h : w ≡ put packed (3 + 4 * p) (m ∷ [])) where

@@ -16,7 +16,8 @@ use lib.Seq.{sets-eq}
 use Rattle.rules.specs.Below.{someBelow, allBelow, count, earliest, latest, sum, tab, gather}
 use Rattle.rules.specs.Rows.{none, docAt, isShown, inRecord, place, isFrame, flag, withFlags, climb}
 use Rattle.rules.specs.Steps.{step, reach, position, steps, climbOf, hiderOf, visible}
-use Rattle.rules.specs.Moves.{opened, gone, without, hide, navigated, renamed, replaced, show, forward, backTarget, rowBefore, back, walked, shownDoc, changeRow, changes}
+use Rattle.rules.specs.Windows.{rootAt, windowRows, isRoot}
+use Rattle.rules.specs.Moves.{opened, tabbed, gone, without, hide, navigated, renamed, replaced, show, forward, backTarget, rowBefore, back, walked, reflagged, traversed, shownDoc, changeRow, changes}
 use Rattle.rules.specs.Words.{put, tableOf, rowsOf, wordsOf, written}
 use Rattle.rules.specs.Sound.{soundTable?, sound?}
 use Rattle.rules.specs.Asks.{takenList, upcomingList, stretched, outlineFrame, outlineOf}
@@ -36,7 +37,7 @@ holding c rows d f = length rows ∷ d ∷ f ∷ (flatMap (λ r. r) rows ++ repl
 abbrev fresh : ℕ → List ℕ
 fresh c = getD (outcome (Call.Fresh (replicate (3 + 4 * c) 0)) .lent) 0 []
 
--- What a case looks at: the answers on the way, then of the record the answer of Position, its documents, those shown, those that Visible says
+-- What a case looks at: the answers on the way, then of the record the answer of Position for window 0, its documents, those shown, those that Visible says
 -- yes to, and the change rows that the last call wrote.
 pub record Seen : Type 0 where
   pub answers : List Answer
@@ -72,7 +73,7 @@ seen c =
     let rows = rowsOf words in
     record {
       answers = answersOf (c .start) (c .moves);
-      stands = outcome (Call.Position words) .answer;
+      stands = outcome (Call.Position words 0) .answer;
       documents = tab (length rows) (docAt rows);
       shown = gather (isShown rows) (docAt rows) (length rows);
       sees = gather (λ i. yes? (outcome (Call.Visible words (docAt rows i)) .answer)) (docAt rows) (length rows);
@@ -88,10 +89,10 @@ abbrev room : List ℕ
 room = 9 ∷ 9 ∷ 9 ∷ 9 ∷ []
 
 abbrev forwardBy : ℕ → Move
-forwardBy k = Move.goes (pos k) room
+forwardBy k = Move.goes 0 (pos k) room
 
 abbrev backBy : ℕ → Move
-backBy k = Move.goes (negℤ (pos k)) room
+backBy k = Move.goes 0 (negℤ (pos k)) room
 
 abbrev no : ℕ → Answer
 no k = Answer.refuses k []
@@ -329,8 +330,8 @@ abbrev pub table : List Case
 table = p1 ∷ p2 ∷ p3 ∷ p4 ∷ p5 ∷ p6 ∷ p7 ∷ p8 ∷ p9 ∷ p10 ∷ p11 ∷ p11b ∷ p12 ∷ p12b ∷ hiddenFuture ∷ []
 
 pub examples-hold : map seen table ≡ map (λ c. c .expected) table
-unfolding someBelow allBelow count earliest latest tab gather inRecord place isFrame withFlags climb step reach position steps climbOf hiderOf visible
-    opened gone without hide navigated show forward backTarget rowBefore back walked shownDoc changeRow changes
+unfolding someBelow allBelow count earliest latest tab gather inRecord place isFrame withFlags climb rootAt windowRows isRoot step reach position steps climbOf hiderOf visible
+    opened gone without hide navigated show forward backTarget rowBefore back walked reflagged traversed shownDoc changeRow changes
     put tableOf wordsOf written soundTable? sound? refusals accepted ladder outcome run flatMap
 examples-hold = refl
 
@@ -373,8 +374,8 @@ drops =
     ∷ []
 
 pub drops-hold : map seen drops ≡ map (λ c. c .expected) drops
-unfolding someBelow allBelow count earliest latest tab gather inRecord place isFrame withFlags climb step reach position steps climbOf hiderOf visible
-    opened gone without hide navigated show forward backTarget rowBefore back walked shownDoc changeRow changes parentOf
+unfolding someBelow allBelow count earliest latest tab gather inRecord place isFrame withFlags climb rootAt windowRows isRoot step reach position steps climbOf hiderOf visible
+    opened gone without hide navigated show forward backTarget rowBefore back walked reflagged traversed shownDoc changeRow changes parentOf
     put tableOf wordsOf written soundTable? sound? refusals accepted ladder outcome run flatMap
 drops-hold = refl
 
@@ -421,10 +422,65 @@ replaces =
     ∷ []
 
 pub replaces-hold : map seen replaces ≡ map (λ c. c .expected) replaces
-unfolding someBelow allBelow count earliest latest tab gather inRecord place isFrame withFlags climb step reach position steps climbOf hiderOf visible
-    opened gone without hide navigated renamed replaced show forward backTarget rowBefore back walked shownDoc changeRow changes
+unfolding someBelow allBelow count earliest latest tab gather inRecord place isFrame withFlags climb rootAt windowRows isRoot step reach position steps climbOf hiderOf visible
+    opened gone without hide navigated renamed replaced show forward backTarget rowBefore back walked reflagged traversed shownDoc changeRow changes
     put tableOf wordsOf written soundTable? sound? refusals accepted ladder outcome run flatMap
 replaces-hold = refl
+
+-- TWO WINDOWS (document 02, L10)
+
+-- Back in the window with this root frame.
+abbrev backIn : ℕ → ℕ → Move
+backIn r k = Move.goes r (negℤ (pos k)) room
+
+abbrev pub windows : List Case
+windows =
+    -- A pop-up card, with frame 1, beside the main window: steps in turn. Back in one leaves the other's documents as they are; the later step may be the one taken.
+    record {
+      start = fresh 8;
+      moves = Move.tabs ∷ Move.navigates 0 ∷ Move.navigates 1 ∷ backIn 1 1 ∷ [];
+      expected = record {
+        answers = Answer.gives (1 ∷ 1 ∷ []) ∷ ok 2 ∷ ok 3 ∷ ok 1 ∷ [];
+        stands = at 1 1;
+        documents = 0 ∷ 1 ∷ 2 ∷ 3 ∷ [];
+        shown = 1 ∷ 2 ∷ [];
+        sees = 1 ∷ 2 ∷ [];
+        changed = 1 ∷ 3 ∷ 1 ∷ 1 ∷ [];
+      };
+    }
+    ∷ record {
+      start = fresh 8;
+      moves = Move.tabs ∷ Move.navigates 0 ∷ Move.navigates 1 ∷ backIn 0 1 ∷ [];
+      expected = record {
+        answers = Answer.gives (1 ∷ 1 ∷ []) ∷ ok 2 ∷ ok 3 ∷ ok 1 ∷ [];
+        stands = at 0 1;
+        documents = 0 ∷ 1 ∷ 2 ∷ 3 ∷ [];
+        shown = 0 ∷ 3 ∷ [];
+        sees = 0 ∷ 3 ∷ [];
+        changed = 0 ∷ 2 ∷ 0 ∷ 1 ∷ [];
+      };
+    }
+    -- A root frame that isn't one: a frame beneath, and a number of no frame. Neither window can be dropped.
+    ∷ record { start = X; moves = backIn 1 1 ∷ backIn 9 1 ∷ []; expected = asX (no 13 ∷ no 13 ∷ []) room }
+    ∷ case (fresh 8) (Move.tabs ∷ Move.drops 1 ∷ Move.drops 0 ∷ []) (Answer.gives (1 ∷ 1 ∷ []) ∷ no 10 ∷ no 10 ∷ []) (at 0 0) (0 ∷ 1 ∷ []) (0 ∷ 1 ∷ []) (0 ∷ 1 ∷ [])
+    -- Step 2 of the card is upcoming, and 3 lies in it. Navigating in the main window keeps both; navigating in the card clears both.
+    ∷ case (fresh 8) (Move.tabs ∷ Move.navigates 1 ∷ Move.opens 2 ∷ backIn 1 1 ∷ Move.navigates 0 ∷ [])
+    (Answer.gives (1 ∷ 1 ∷ []) ∷ ok 2 ∷ Answer.gives (3 ∷ 2 ∷ []) ∷ ok 1 ∷ ok 4 ∷ []) (at 1 1) (0 ∷ 1 ∷ 2 ∷ 3 ∷ 4 ∷ []) (1 ∷ 3 ∷ 4 ∷ []) (1 ∷ 4 ∷ [])
+    ∷ case (fresh 8) (Move.tabs ∷ Move.navigates 1 ∷ Move.opens 2 ∷ backIn 1 1 ∷ Move.navigates 1 ∷ [])
+    (Answer.gives (1 ∷ 1 ∷ []) ∷ ok 2 ∷ Answer.gives (3 ∷ 2 ∷ []) ∷ ok 1 ∷ ok 4 ∷ []) (at 0 0) (0 ∷ 1 ∷ 4 ∷ []) (0 ∷ 4 ∷ []) (0 ∷ 4 ∷ [])
+    -- A full table whose only upcoming step is the card's: there is room for a step in the card alone.
+    ∷ case (fresh 3) (Move.tabs ∷ Move.navigates 1 ∷ backIn 1 1 ∷ Move.navigates 0 ∷ Move.navigates 1 ∷ [])
+    (Answer.gives (1 ∷ 1 ∷ []) ∷ ok 2 ∷ ok 1 ∷ no 7 ∷ ok 3 ∷ []) (at 0 0) (0 ∷ 1 ∷ 3 ∷ []) (0 ∷ 3 ∷ []) (0 ∷ 3 ∷ [])
+    -- What is opened under the card's document is the card's; replacing and dropping there leave the main window.
+    ∷ case (fresh 8) (Move.tabs ∷ Move.opens 1 ∷ Move.navigates 0 ∷ Move.replaces 1 ∷ Move.opens 4 ∷ Move.drops 3 ∷ [])
+    (Answer.gives (1 ∷ 1 ∷ []) ∷ Answer.gives (2 ∷ 2 ∷ []) ∷ ok 3 ∷ ok 4 ∷ Answer.gives (5 ∷ 3 ∷ []) ∷ ok 1 ∷ []) (at 1 1) (0 ∷ 4 ∷ 3 ∷ []) (4 ∷ 3 ∷ []) (4 ∷ 3 ∷ [])
+    ∷ []
+
+pub windows-hold : map seen windows ≡ map (λ c. c .expected) windows
+unfolding someBelow allBelow count earliest latest tab gather inRecord place isFrame withFlags climb rootAt windowRows isRoot step reach position steps climbOf hiderOf visible
+    opened tabbed gone without hide navigated renamed replaced show forward backTarget rowBefore back walked reflagged traversed shownDoc changeRow changes parentOf
+    put tableOf wordsOf written soundTable? sound? refusals accepted ladder outcome run flatMap
+windows-hold = refl
 
 -- The small examples: a call and its whole outcome.
 pub record Small : Type 0 where
@@ -514,6 +570,30 @@ swapped = holding 2 (row 0 1 none 1 ∷ row 1 0 0 1 ∷ []) none none
 abbrev nested : List ℕ
 nested = holding 6 (row 0 0 none 0 ∷ row 1 1 0 0 ∷ row 2 2 1 1 ∷ row 3 1 0 1 ∷ row 4 0 none 1 ∷ row 5 3 2 1 ∷ []) 6 4
 
+-- Documents 0 and 2 of root frame 0, of which a is shown, 1 and 3 of root frame 1, of which b is, and 4 in document 1; saved.
+abbrev pair : ℕ → ℕ → List ℕ
+pair a b =
+    let one : ℕ → List ℕ = λ d. row d 0 none (flag (eqb d a)) in
+    let two : ℕ → List ℕ = λ d. row d 1 none (flag (eqb d b)) in
+    holding 5 (one 0 ∷ two 1 ∷ one 2 ∷ two 3 ∷ row 4 2 1 1 ∷ []) 5 3
+
+abbrev contentsOfPair : List ℕ
+contentsOfPair =
+    0 ∷ 0 ∷ 0 ∷ 3 ∷ 0 ∷ 0 ∷ 0 ∷ 5 ∷ 0 ∷ 0 ∷ 0 ∷ 3
+    ∷ 0 ∷ 0 ∷ 0 ∷ 0 ∷ 255 ∷ 255 ∷ 255 ∷ 255 ∷ 0 ∷ 0 ∷ 0 ∷ 2 ∷ 0 ∷ 0 ∷ 0 ∷ 0
+    ∷ 0 ∷ 0 ∷ 0 ∷ 1 ∷ 255 ∷ 255 ∷ 255 ∷ 255 ∷ 0 ∷ 0 ∷ 0 ∷ 2 ∷ 0 ∷ 0 ∷ 0 ∷ 1
+    ∷ 0 ∷ 0 ∷ 0 ∷ 2 ∷ 0 ∷ 0 ∷ 0 ∷ 1 ∷ 0 ∷ 0 ∷ 0 ∷ 1 ∷ 0 ∷ 0 ∷ 0 ∷ 0 ∷ []
+
+abbrev bytesOfPair : List ℕ
+bytesOfPair =
+    contentsOfPair
+    ++ 0 ∷ 0 ∷ 0 ∷ 0 ∷ 0 ∷ 0 ∷ 0 ∷ 0 ∷ 0 ∷ 0 ∷ 0 ∷ 2 ∷ 0 ∷ 0 ∷ 0 ∷ 2
+    ∷ 0 ∷ 0 ∷ 0 ∷ 1 ∷ 0 ∷ 0 ∷ 0 ∷ 1 ∷ 0 ∷ 0 ∷ 0 ∷ 3 ∷ 0 ∷ 0 ∷ 0 ∷ 3
+    ∷ 0 ∷ 0 ∷ 0 ∷ 4 ∷ 0 ∷ 0 ∷ 0 ∷ 4 ∷ []
+
+abbrev oldBytesOfPair : List ℕ
+oldBytesOfPair = contentsOfPair ++ 0 ∷ 0 ∷ 0 ∷ 0 ∷ 0 ∷ 0 ∷ 0 ∷ 2 ∷ 0 ∷ 0 ∷ 0 ∷ 1 ∷ 0 ∷ 0 ∷ 0 ∷ 3 ∷ 0 ∷ 0 ∷ 0 ∷ 4 ∷ []
+
 -- Visible says yes, and that nobody hides it; no, and who does; and how many links were followed.
 abbrev seesIt : ℕ → Answer
 seesIt links = Answer.gives (1 ∷ none ∷ links ∷ [])
@@ -523,7 +603,7 @@ hid d links = Answer.gives (0 ∷ d ∷ links ∷ [])
 
 -- A record that Position refuses as unsound.
 abbrev unsound : List ℕ → Small
-unsound words = small (Call.Position words) (no 2) []
+unsound words = small (Call.Position words 0) (no 2) []
 
 abbrev pub smalls : List Small
 smalls =
@@ -541,28 +621,28 @@ smalls =
     ∷ small (Call.Fresh (replicate 7 7)) (Answer.gives []) ((1 ∷ 1 ∷ 1 ∷ 0 ∷ 0 ∷ none ∷ 1 ∷ []) ∷ [])
     ∷ small (Call.Open (fresh 1) 0) (no 7) (fresh 1 ∷ [])
     -- "a fresh window has length 1 [..] Position and steps stay as they are": the length goes by neither the position nor the steps alone.
-    ∷ small (Call.Position (fresh 1)) (Answer.gives (0 ∷ 0 ∷ 1 ∷ [])) []
-    ∷ small (Call.Position X) (Answer.gives (1 ∷ 2 ∷ 3 ∷ [])) []
+    ∷ small (Call.Position (fresh 1) 0) (Answer.gives (0 ∷ 0 ∷ 1 ∷ [])) []
+    ∷ small (Call.Position X 0) (Answer.gives (1 ∷ 2 ∷ 3 ∷ [])) []
     -- "words past 3 + 4C are neither read nor written"
-    ∷ small (Call.Position (fresh 1 ++ 7 ∷ [])) (at 0 0) []
+    ∷ small (Call.Position (fresh 1 ++ 7 ∷ []) 0) (at 0 0) []
     -- "Empty saved bytes: refused 3."
     ∷ small (Call.Load (replicate 7 7) []) (no 3) (replicate 7 7 ∷ [])
     ∷ small (Call.LoadOld (replicate 7 7) []) (no 3) (replicate 7 7 ∷ [])
     -- X again: its lists, its outline, its bytes and back; and back from the old form.
-    ∷ small (Call.Lists X (9 ∷ 9 ∷ []) (9 ∷ 9 ∷ [])) (Answer.gives (1 ∷ 1 ∷ [])) ((4 ∷ 9 ∷ []) ∷ (5 ∷ 9 ∷ []) ∷ [])
-    ∷ small (Call.Outline X (replicate 9 9)) (ok 4) ((0 ∷ 0 ∷ 1 ∷ 1 ∷ 2 ∷ 4 ∷ 1 ∷ 3 ∷ 9 ∷ []) ∷ [])
+    ∷ small (Call.Lists X 0 (9 ∷ 9 ∷ []) (9 ∷ 9 ∷ [])) (Answer.gives (1 ∷ 1 ∷ [])) ((4 ∷ 9 ∷ []) ∷ (5 ∷ 9 ∷ []) ∷ [])
+    ∷ small (Call.Outline X 0 (replicate 9 9)) (ok 4) ((0 ∷ 0 ∷ 1 ∷ 1 ∷ 2 ∷ 4 ∷ 1 ∷ 3 ∷ 9 ∷ []) ∷ [])
     ∷ small (Call.Save X (replicate 125 7)) (ok 124) ((bytesOfX ++ 7 ∷ []) ∷ [])
     ∷ small (Call.Load (replicate 35 7) bytesOfX) (ok 6) (X ∷ [])
     ∷ small (Call.LoadOld (replicate 35 7) oldBytesOfX) (ok 6) (X ∷ [])
     -- "taken steps, latest first, and upcoming steps, earliest first; words past them keep their values"
-    ∷ small (Call.Lists (crossing 3 4) (replicate 3 9) (replicate 3 9)) (Answer.gives (2 ∷ 2 ∷ [])) ((4 ∷ 3 ∷ 9 ∷ []) ∷ (5 ∷ 6 ∷ 9 ∷ []) ∷ [])
+    ∷ small (Call.Lists (crossing 3 4) 0 (replicate 3 9) (replicate 3 9)) (Answer.gives (2 ∷ 2 ∷ [])) ((4 ∷ 3 ∷ 9 ∷ []) ∷ (5 ∷ 6 ∷ 9 ∷ []) ∷ [])
     -- Change rows "by rising frame number", though frame 2 moves first, forward and back. "Further rows keep what they held."
-    ∷ small (Call.Traverse (crossing 3 4) (pos 2) (replicate 12 9)) (ok 2) (crossing 6 5 ∷ (1 ∷ 3 ∷ 6 ∷ 1 ∷ 2 ∷ 4 ∷ 5 ∷ 1 ∷ room) ∷ [])
-    ∷ small (Call.Traverse (crossing 3 4) (negℤ (pos 2)) (replicate 12 9)) (ok 2) (crossing 1 2 ∷ (1 ∷ 3 ∷ 1 ∷ 1 ∷ 2 ∷ 4 ∷ 2 ∷ 1 ∷ room) ∷ [])
+    ∷ small (Call.Traverse (crossing 3 4) 0 (pos 2) (replicate 12 9)) (ok 2) (crossing 6 5 ∷ (1 ∷ 3 ∷ 6 ∷ 1 ∷ 2 ∷ 4 ∷ 5 ∷ 1 ∷ room) ∷ [])
+    ∷ small (Call.Traverse (crossing 3 4) 0 (negℤ (pos 2)) (replicate 12 9)) (ok 2) (crossing 1 2 ∷ (1 ∷ 3 ∷ 1 ∷ 1 ∷ 2 ∷ 4 ∷ 2 ∷ 1 ∷ room) ∷ [])
     -- One row "for each frame whose shown document differs between start and end": frame 2 takes two steps.
-    ∷ small (Call.Traverse (crossing 1 2) (pos 3) (replicate 8 9)) (ok 2) (crossing 3 5 ∷ (1 ∷ 1 ∷ 3 ∷ 1 ∷ 2 ∷ 2 ∷ 5 ∷ 1 ∷ []) ∷ [])
+    ∷ small (Call.Traverse (crossing 1 2) 0 (pos 3) (replicate 8 9)) (ok 2) (crossing 3 5 ∷ (1 ∷ 1 ∷ 3 ∷ 1 ∷ 2 ∷ 2 ∷ 5 ∷ 1 ∷ []) ∷ [])
     -- "δ = 0 is accepted."
-    ∷ small (Call.Traverse X (pos 0) []) (ok 0) (X ∷ [] ∷ [])
+    ∷ small (Call.Traverse X 0 (pos 0) []) (ok 0) (X ∷ [] ∷ [])
     -- "the second for δ ≥ 0 and the first for δ < 0", "when it is 6, the part given back is empty"; and at the far end of δ's width.
     ∷ small (Call.Stretch (4 ∷ 2 ∷ []) (5 ∷ []) (negℤ (pos 1))) (Answer.gives (4 ∷ [])) []
     ∷ small (Call.Stretch (4 ∷ 2 ∷ []) (5 ∷ []) (pos 2)) (Answer.gives []) []
@@ -609,7 +689,7 @@ smalls =
     ∷ unsound (next 0 1)
     ∷ unsound (falling 2)
     -- "no longer rising": document 2 before document 1 is sound. The old form has no row places, and its bytes are refused as ever.
-    ∷ small (Call.Position (falling 3)) (at 0 2) []
+    ∷ small (Call.Position (falling 3) 0) (at 0 2) []
     ∷ small (Call.Save (falling 3) (replicate 52 7)) (ok 52) (fallingAt 0 1 2 ∷ [])
     ∷ small (Call.Load (replicate 15 7) (fallingAt 0 1 2)) (ok 3) (falling 3 ∷ [])
     ∷ small (Call.LoadOld (replicate 15 7) oldBytesOfFalling) (no 3) (replicate 15 7 ∷ [])
@@ -622,9 +702,9 @@ smalls =
     -- S4: the parent is the document itself; the parent is in no row.
     ∷ unsound (holding 2 (row 0 0 none 1 ∷ row 1 1 1 1 ∷ []) 2 2)
     ∷ unsound (holding 2 (row 0 0 none 1 ∷ row 2 1 1 1 ∷ []) 3 2)
-    -- S5: frame 1 under documents 0 and 1; two frames without a parent.
+    -- S5: frame 1 under documents 0 and 1; under document 0 and under none.
     ∷ unsound (holding 3 (row 0 0 none 1 ∷ row 1 1 0 1 ∷ row 2 1 1 0 ∷ []) 3 2)
-    ∷ unsound (holding 2 (row 0 0 none 1 ∷ row 1 1 none 1 ∷ []) 2 2)
+    ∷ unsound (holding 3 (row 0 0 none 1 ∷ row 1 1 0 1 ∷ row 2 1 none 0 ∷ []) 3 2)
     -- S6: a shown word of 2; two rows shown; none shown.
     ∷ unsound (holding 2 (row 0 0 none 1 ∷ row 1 0 none 2 ∷ []) 2 1)
     ∷ unsound (holding 2 (row 0 0 none 1 ∷ row 1 0 none 1 ∷ []) 2 1)
@@ -661,18 +741,64 @@ smalls =
     ∷ small (Call.Navigate (next none 1) 0) (no 8) (next none 1 ∷ [])
     ∷ small (Call.Navigate (next 1 none) 0) (ok 1) (holding 2 (row 0 0 none 0 ∷ row 1 0 none 1 ∷ []) 2 none ∷ [])
     -- "a lent answer buffer is too short"
-    ∷ small (Call.Traverse (crossing 3 4) (pos 2) (replicate 7 9)) (no 9) (crossing 3 4 ∷ replicate 7 9 ∷ [])
-    ∷ small (Call.Lists (crossing 3 4) (replicate 1 9) (replicate 2 9)) (no 9) (replicate 1 9 ∷ replicate 2 9 ∷ [])
-    ∷ small (Call.Lists (crossing 3 4) (replicate 2 9) (replicate 1 9)) (no 9) (replicate 2 9 ∷ replicate 1 9 ∷ [])
-    ∷ small (Call.Outline X (replicate 7 9)) (no 9) (replicate 7 9 ∷ [])
+    ∷ small (Call.Traverse (crossing 3 4) 0 (pos 2) (replicate 7 9)) (no 9) (crossing 3 4 ∷ replicate 7 9 ∷ [])
+    ∷ small (Call.Lists (crossing 3 4) 0 (replicate 1 9) (replicate 2 9)) (no 9) (replicate 1 9 ∷ replicate 2 9 ∷ [])
+    ∷ small (Call.Lists (crossing 3 4) 0 (replicate 2 9) (replicate 1 9)) (no 9) (replicate 2 9 ∷ replicate 1 9 ∷ [])
+    ∷ small (Call.Outline X 0 (replicate 7 9)) (no 9) (replicate 7 9 ∷ [])
     ∷ []
 
 pub smalls-hold : map (λ s. outcome (s .call)) smalls ≡ map (λ s. s .expected) smalls
-unfolding someBelow allBelow count earliest latest sum tab gather inRecord place isFrame withFlags climb step reach position steps climbOf hiderOf visible
-    gone without hide navigated renamed replaced show forward backTarget rowBefore back walked shownDoc changeRow changes
+unfolding someBelow allBelow count earliest latest sum tab gather inRecord place isFrame withFlags climb rootAt windowRows isRoot step reach position steps climbOf hiderOf visible
+    opened tabbed gone without hide navigated renamed replaced show forward backTarget rowBefore back walked reflagged traversed shownDoc changeRow changes
     put tableOf wordsOf written soundTable? sound? takenList upcomingList stretched outlineFrame outlineOf
     number docsOf shownPlace parentOf contents savedWith body toldRow toldRows rowFor loaded fromSave? oldBody oldLoaded oldTable? fromOldSave? refusals accepted ladder outcome flatMap
 smalls-hold = refl
+
+-- Two windows, by single calls (document 02, L10).
+abbrev pub windowed : List Small
+windowed =
+    -- "Opening a window appends a root row with new numbers", and "gives 1, 2, 7 and 8": in this order.
+    small (Call.Tab (next 1 1)) (Answer.gives (1 ∷ 1 ∷ [])) (holding 2 (row 0 0 none 1 ∷ row 1 1 none 1 ∷ []) 2 2 ∷ [])
+    ∷ small (Call.Tab (replicate 6 0)) (no 1) (replicate 6 0 ∷ [])
+    ∷ small (Call.Tab nine) (no 2) (nine ∷ [])
+    ∷ small (Call.Tab swapped) (no 7) (swapped ∷ [])
+    ∷ small (Call.Tab (next none 1)) (no 8) (next none 1 ∷ [])
+    ∷ small (Call.Tab (next 1 none)) (no 8) (next 1 none ∷ [])
+    -- "S7, position, steps [..] per window": step 2 of window 0 is upcoming, step 3 of window 1 taken. As one window it is unsound, as P9 is.
+    ∷ small (Call.Position (pair 0 3) 0) (at 0 1) []
+    ∷ small (Call.Position (pair 0 3) 1) (at 1 1) []
+    ∷ small (Call.Lists (pair 0 3) 0 (9 ∷ []) (9 ∷ [])) (Answer.gives (0 ∷ 1 ∷ [])) ((9 ∷ []) ∷ (2 ∷ []) ∷ [])
+    ∷ small (Call.Lists (pair 0 3) 1 (9 ∷ []) (9 ∷ [])) (Answer.gives (1 ∷ 0 ∷ [])) ((3 ∷ []) ∷ (9 ∷ []) ∷ [])
+    ∷ small (Call.Outline (pair 0 1) 0 (replicate 4 9)) (ok 1) ((0 ∷ 0 ∷ 9 ∷ 9 ∷ []) ∷ [])
+    ∷ small (Call.Outline (pair 0 1) 1 (replicate 4 9)) (ok 2) ((0 ∷ 1 ∷ 1 ∷ 4 ∷ []) ∷ [])
+    ∷ small (Call.Traverse (pair 0 3) 1 (negℤ (pos 1)) room) (ok 1) (pair 0 1 ∷ (1 ∷ 3 ∷ 1 ∷ 1 ∷ []) ∷ [])
+    ∷ small (Call.Traverse (pair 0 3) 0 (pos 1) room) (ok 1) (pair 2 3 ∷ (0 ∷ 0 ∷ 2 ∷ 1 ∷ []) ∷ [])
+    ∷ small (Call.Traverse (pair 0 3) 1 (pos 1) room) (no 6) (pair 0 3 ∷ room ∷ [])
+    -- "The saved layout is unchanged; new-form loading follows the wider S5, old-form loading the narrow one."
+    ∷ small (Call.Save (pair 0 3) (replicate 100 7)) (ok 100) (bytesOfPair ∷ [])
+    ∷ small (Call.Load (replicate 23 7) bytesOfPair) (ok 5) (pair 0 3 ∷ [])
+    ∷ small (Call.LoadOld (replicate 23 7) oldBytesOfPair) (no 3) (replicate 23 7 ∷ [])
+    -- "13 when no root frame has that number, after 2": before 6 and 9, of a frame beneath and of no frame.
+    ∷ small (Call.Position X 1) (no 13) []
+    ∷ small (Call.Position nine 9) (no 2) []
+    ∷ small (Call.Position (replicate 6 0) 9) (no 1) []
+    ∷ small (Call.Traverse nine 9 (pos 0) []) (no 2) (nine ∷ [] ∷ [])
+    ∷ small (Call.Traverse X 9 (pos 5) []) (no 13) (X ∷ [] ∷ [])
+    ∷ small (Call.Lists nine 9 [] []) (no 2) ([] ∷ [] ∷ [])
+    ∷ small (Call.Lists X 9 [] []) (no 13) ([] ∷ [] ∷ [])
+    ∷ small (Call.Outline nine 9 []) (no 2) ([] ∷ [])
+    ∷ small (Call.Outline X 1 []) (no 13) ([] ∷ [])
+    -- The root frame is the one without a parent, whatever its number.
+    ∷ small (Call.Position swapped 1) (at 0 0) []
+    ∷ small (Call.Position swapped 0) (no 13) []
+    ∷ []
+
+pub windowed-hold : map (λ s. outcome (s .call)) windowed ≡ map (λ s. s .expected) windowed
+unfolding someBelow allBelow count earliest latest sum tab gather inRecord place isFrame withFlags climb rootAt windowRows isRoot step reach position steps
+    opened tabbed show forward backTarget rowBefore back walked reflagged traversed shownDoc changeRow changes visible hiderOf climbOf
+    put tableOf wordsOf written soundTable? sound? takenList upcomingList outlineFrame outlineOf
+    number docsOf shownPlace parentOf contents savedWith body toldRow toldRows rowFor loaded fromSave? oldBody oldLoaded oldTable? fromOldSave? refusals accepted ladder outcome flatMap
+windowed-hold = refl
 
 -- "at most 512; words past 3 + 4C are neither read nor written": of 2056 words Fresh keeps the last five. A row by itself, since to compute so
 -- many stores one by one takes long.
@@ -804,6 +930,6 @@ scrolls =
     ++ set 1 (Place.at nan (dbl three)) [] (no 11) [] ∷ [])
 
 pub scrolls-hold : map (λ s. outcome (s .call)) scrolls ≡ map (λ s. s .expected) scrolls
-unfolding someBelow allBelow count earliest tab inRecord step reach put tableOf soundTable? sound? finite entryOf fine? placeOf freedTo spot placed
+unfolding someBelow allBelow count earliest tab inRecord climb rootAt step reach put tableOf soundTable? sound? finite entryOf fine? placeOf freedTo spot placed
     refusals accepted ladder outcome flatMap trailingZeros span climbs size odd units round mul ofFields ofBits toBits
 scrolls-hold = refl

@@ -8,9 +8,10 @@ use lib.Dec.{eqb, leb, ltb}
 use lib.Ieee.{Float}
 use lib.IntN.{ℤ, pos, negsuc, _+ℤ_, natAbs}
 use lib.ListN.{length}
-use Rattle.rules.specs.Rows.{Row, none, inRecord, isFrame, flag}
+use Rattle.rules.specs.Rows.{Row, Table, none, inRecord, place, isFrame, flag}
 use Rattle.rules.specs.Steps.{position, steps, scriptLength, visible, climbOf, hiderOf, hiderNumber}
-use Rattle.rules.specs.Moves.{freshTable, opened, cleared, navigated, traversed, dropped, replaced, changes}
+use Rattle.rules.specs.Windows.{rootAt, windowOf, isRoot}
+use Rattle.rules.specs.Moves.{freshTable, opened, tabbed, cleared, navigated, traversed, dropped, replaced, changes}
 use Rattle.rules.specs.Words.{put, capacity, tableOf, rowsOf, written}
 use Rattle.rules.specs.Sound.{sound?}
 use Rattle.rules.specs.Asks.{takenList, upcomingList, tooFar, stretched, outlineOf}
@@ -18,21 +19,22 @@ use Rattle.rules.specs.Saved.{parentOf, saved, loaded, fromSave?}
 use Rattle.rules.specs.OldSaved.{oldLoaded, fromOldSave?}
 use Rattle.rules.specs.Places.{Place, finite, finitePlace, scaled, placeWords, fine?, placeOf, freed, noRoom, placed}
 
--- A call with all that it is handed: `words` is the record, `room` a lent answer buffer, `parent`, `from` and `d` documents, `frame` a frame,
--- `places` a store of scroll places.
+-- A call with all that it is handed: `words` is the record, `room` a lent answer buffer, `parent`, `from` and `d` documents, `frame` a frame, `root` a window's
+-- root frame, `places` a store of scroll places.
 pub data Call : Type 0 where
   Fresh : (words : List ℕ) → Call
   Open : (words : List ℕ) (parent : ℕ) → Call
   Navigate : (words : List ℕ) (from : ℕ) → Call
-  Traverse : (words : List ℕ) (δ : ℤ) (room : List ℕ) → Call
+  Traverse : (words : List ℕ) (root : ℕ) (δ : ℤ) (room : List ℕ) → Call
   Drop : (words : List ℕ) (frame : ℕ) → Call
   Replace : (words : List ℕ) (d : ℕ) → Call
-  Position : (words : List ℕ) → Call
+  Tab : (words : List ℕ) → Call
+  Position : (words : List ℕ) (root : ℕ) → Call
   Visible : (words : List ℕ) (d : ℕ) → Call
-  Lists : (words : List ℕ) (takens upcomings : List ℕ) → Call
+  Lists : (words : List ℕ) (root : ℕ) (takens upcomings : List ℕ) → Call
   Stretch : (takens upcomings : List ℕ) (δ : ℤ) → Call
   StretchCount : (takens upcomings : List ℕ) (δ : ℤ) → Call
-  Outline : (words : List ℕ) (room : List ℕ) → Call
+  Outline : (words : List ℕ) (root : ℕ) (room : List ℕ) → Call
   Save : (words : List ℕ) (room : List ℕ) → Call
   Load : (words : List ℕ) (bytes : List ℕ) → Call
   LoadOld : (words : List ℕ) (bytes : List ℕ) → Call
@@ -55,15 +57,16 @@ abbrev pub lentTo : Call → List (List ℕ)
 lentTo (Call.Fresh words) = words ∷ []
 lentTo (Call.Open words parent) = words ∷ []
 lentTo (Call.Navigate words from) = words ∷ []
-lentTo (Call.Traverse words δ room) = words ∷ room ∷ []
+lentTo (Call.Traverse words root δ room) = words ∷ room ∷ []
 lentTo (Call.Drop words frame) = words ∷ []
 lentTo (Call.Replace words d) = words ∷ []
-lentTo (Call.Position words) = []
+lentTo (Call.Tab words) = words ∷ []
+lentTo (Call.Position words root) = []
 lentTo (Call.Visible words d) = []
-lentTo (Call.Lists words takens upcomings) = takens ∷ upcomings ∷ []
+lentTo (Call.Lists words root takens upcomings) = takens ∷ upcomings ∷ []
 lentTo (Call.Stretch takens upcomings δ) = []
 lentTo (Call.StretchCount takens upcomings δ) = []
-lentTo (Call.Outline words room) = room ∷ []
+lentTo (Call.Outline words root room) = room ∷ []
 lentTo (Call.Save words room) = room ∷ []
 lentTo (Call.Load words bytes) = words ∷ []
 lentTo (Call.LoadOld words bytes) = words ∷ []
@@ -96,8 +99,8 @@ abbrev pub outside : ℕ → ℤ → Bool
 outside n (pos q) = ltb n q
 outside n (negsuc q) = true
 
-abbrev pub beyond : List ℕ → ℤ → Bool
-beyond words δ = outside (steps (rowsOf words)) (pos (position (rowsOf words)) +ℤ δ)
+abbrev pub beyond : List Row → ℤ → Bool
+beyond rows δ = outside (steps rows) (pos (position rows) +ℤ δ)
 
 -- "no row left": for so many rows
 abbrev pub full : List ℕ → List Row → Bool
@@ -117,6 +120,14 @@ noFrame words f = not (isFrame (rowsOf words) f)
 
 abbrev pub rootFrame : List ℕ → ℕ → Bool
 rootFrame words f = eqb (parentOf (rowsOf words) f) none
+
+-- "13 when no root frame has that number, after 2" (document 02, L10): a frame beneath one is none.
+abbrev pub noRoot : List ℕ → ℕ → Bool
+noRoot words root = not (isRoot (rowsOf words) root)
+
+-- The rows of a window of the record, and the window as a table.
+abbrev pub windowIn : List ℕ → ℕ → Table
+windowIn words root = windowOf (tableOf words) root
 
 -- "15, right after 2, for a store whose entries not free hold a document twice, a kind above 1 or a point not finite" (document 02, L5)
 abbrev pub badPlaces : List ℕ → Bool
@@ -146,7 +157,7 @@ infix 69 _naming_
 abbrev pub _naming_ : Rung → ℕ → Rung
 r naming d = record { number = r .number; holds = r .holds; carries = d ∷ [] }
 
--- The lines of each call in the order in which they are asked: that of their numbers but for "10 comes after 4 and before 5" and "15, right after 2".
+-- The lines of each call in the order in which they are asked: that of their numbers but for "10 comes after 4 and before 5", "15, right after 2" and "13 [..] after 2".
 unfoldable pub refusals : Call → List Rung
 refusals (Call.Fresh words) = 1 when short words ∷ []
 refusals (Call.Open words parent) =
@@ -154,24 +165,27 @@ refusals (Call.Open words parent) =
     ∷ 7 when full words (rowsOf words) ∷ 8 when (usedUp (tableOf words .nextDoc) || usedUp (tableOf words .nextFrame)) ∷ []
 refusals (Call.Navigate words from) =
     1 when short words ∷ 2 when unsound words ∷ 4 when absent words from ∷ 5 when hidden words from naming hider words from
-    ∷ 7 when full words (cleared (rowsOf words)) ∷ 8 when usedUp (tableOf words .nextDoc) ∷ []
-refusals (Call.Traverse words δ room) =
-    let cramped = tooShort room (changes (tableOf words) δ) in
-    1 when short words ∷ 2 when unsound words ∷ 6 when beyond words δ ∷ 9 when cramped ∷ []
+    ∷ 7 when full words (cleared (rootAt (rowsOf words) (place (rowsOf words) from)) (rowsOf words)) ∷ 8 when usedUp (tableOf words .nextDoc) ∷ []
+refusals (Call.Traverse words root δ room) =
+    let cramped = tooShort room (changes (windowIn words root) δ) in
+    1 when short words ∷ 2 when unsound words ∷ 13 when noRoot words root ∷ 6 when beyond (windowIn words root .rows) δ ∷ 9 when cramped ∷ []
 refusals (Call.Drop words frame) =
     1 when short words ∷ 2 when unsound words ∷ 4 when noFrame words frame ∷ 10 when rootFrame words frame
     ∷ 5 when hidden words (parentOf (rowsOf words) frame) naming hider words (parentOf (rowsOf words) frame) ∷ []
 refusals (Call.Replace words d) =
     1 when short words ∷ 2 when unsound words ∷ 4 when absent words d ∷ 5 when hidden words d naming hider words d
     ∷ 8 when usedUp (tableOf words .nextDoc) ∷ []
-refusals (Call.Position words) = 1 when short words ∷ 2 when unsound words ∷ []
+refusals (Call.Tab words) =
+    1 when short words ∷ 2 when unsound words ∷ 7 when full words (rowsOf words) ∷ 8 when (usedUp (tableOf words .nextDoc) || usedUp (tableOf words .nextFrame)) ∷ []
+refusals (Call.Position words root) = 1 when short words ∷ 2 when unsound words ∷ 13 when noRoot words root ∷ []
 refusals (Call.Visible words d) = 1 when short words ∷ 2 when unsound words ∷ 4 when absent words d ∷ []
-refusals (Call.Lists words takens upcomings) =
-    1 when short words ∷ 2 when unsound words
-    ∷ 9 when (tooShort takens (takenList (rowsOf words)) || tooShort upcomings (upcomingList (rowsOf words))) ∷ []
+refusals (Call.Lists words root takens upcomings) =
+    1 when short words ∷ 2 when unsound words ∷ 13 when noRoot words root
+    ∷ 9 when (tooShort takens (takenList (windowIn words root .rows)) || tooShort upcomings (upcomingList (windowIn words root .rows))) ∷ []
 refusals (Call.Stretch takens upcomings δ) = []
 refusals (Call.StretchCount takens upcomings δ) = 6 when tooFar takens upcomings δ ∷ []
-refusals (Call.Outline words room) = 1 when short words ∷ 2 when unsound words ∷ 9 when tooShort room (outlineOf (tableOf words)) ∷ []
+refusals (Call.Outline words root room) =
+    1 when short words ∷ 2 when unsound words ∷ 13 when noRoot words root ∷ 9 when tooShort room (outlineOf (windowIn words root)) ∷ []
 refusals (Call.Save words room) = 1 when short words ∷ 2 when unsound words ∷ 9 when tooShort room (saved (tableOf words)) ∷ []
 refusals (Call.Load words bytes) = 1 when short words ∷ 3 when not (fromSave? bytes) ∷ 7 when ltb (capacity words) (length (loaded bytes .rows)) ∷ []
 refusals (Call.LoadOld words bytes) = 1 when short words ∷ 3 when not (fromOldSave? bytes) ∷ 7 when ltb (capacity words) (length (oldLoaded bytes .rows)) ∷ []
@@ -192,19 +206,22 @@ accepted (Call.Fresh words) = [] leaving written words freshTable ∷ []
 accepted (Call.Open words parent) =
     tableOf words .nextDoc ∷ tableOf words .nextFrame ∷ [] leaving written words (opened (tableOf words) parent) ∷ []
 accepted (Call.Navigate words from) = tableOf words .nextDoc ∷ [] leaving written words (navigated (tableOf words) from) ∷ []
-accepted (Call.Traverse words δ room) =
-    length (changes (tableOf words) δ) / 4 ∷ [] leaving written words (traversed (tableOf words) δ) ∷ put room 0 (changes (tableOf words) δ) ∷ []
+accepted (Call.Traverse words root δ room) =
+    length (changes (windowIn words root) δ) / 4 ∷ [] leaving written words (traversed (tableOf words) root δ) ∷ put room 0 (changes (windowIn words root) δ) ∷ []
 accepted (Call.Drop words frame) =
     (length (rowsOf words) - length (dropped (tableOf words) frame .rows)) ∷ [] leaving written words (dropped (tableOf words) frame) ∷ []
 accepted (Call.Replace words d) = tableOf words .nextDoc ∷ [] leaving written words (replaced (tableOf words) d) ∷ []
-accepted (Call.Position words) = position (rowsOf words) ∷ steps (rowsOf words) ∷ scriptLength (rowsOf words) ∷ [] leaving []
+accepted (Call.Tab words) = tableOf words .nextDoc ∷ tableOf words .nextFrame ∷ [] leaving written words (tabbed (tableOf words)) ∷ []
+accepted (Call.Position words root) =
+    let rows = windowIn words root .rows in position rows ∷ steps rows ∷ scriptLength rows ∷ [] leaving []
 accepted (Call.Visible words d) = flag (visible (rowsOf words) d) ∷ hider words d ∷ climbOf (rowsOf words) d .links ∷ [] leaving []
-accepted (Call.Lists words takens upcomings) =
-    length (takenList (rowsOf words)) ∷ length (upcomingList (rowsOf words)) ∷ []
-    leaving put takens 0 (takenList (rowsOf words)) ∷ put upcomings 0 (upcomingList (rowsOf words)) ∷ []
+accepted (Call.Lists words root takens upcomings) =
+    let rows = windowIn words root .rows in
+    length (takenList rows) ∷ length (upcomingList rows) ∷ [] leaving put takens 0 (takenList rows) ∷ put upcomings 0 (upcomingList rows) ∷ []
 accepted (Call.Stretch takens upcomings δ) = stretched takens upcomings δ leaving []
 accepted (Call.StretchCount takens upcomings δ) = natAbs δ ∷ [] leaving []
-accepted (Call.Outline words room) = length (outlineOf (tableOf words)) / 2 ∷ [] leaving put room 0 (outlineOf (tableOf words)) ∷ []
+accepted (Call.Outline words root room) =
+    length (outlineOf (windowIn words root)) / 2 ∷ [] leaving put room 0 (outlineOf (windowIn words root)) ∷ []
 accepted (Call.Save words room) = length (saved (tableOf words)) ∷ [] leaving put room 0 (saved (tableOf words)) ∷ []
 accepted (Call.Load words bytes) = length (loaded bytes .rows) ∷ [] leaving written words (loaded bytes) ∷ []
 accepted (Call.LoadOld words bytes) = length (oldLoaded bytes .rows) ∷ [] leaving written words (oldLoaded bytes) ∷ []

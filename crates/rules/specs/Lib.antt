@@ -2,6 +2,7 @@
 pub mod Below
 pub mod Rows
 pub mod Steps
+pub mod Windows
 pub mod Moves
 pub mod Words
 pub mod Sound

@@ -5,9 +5,10 @@ use mathlib.Core.List.{List, [], _∷_, _++_, flatMap}
 use lib.Dec.{eqb}
 use lib.IntN.{ℤ, pos, negsuc}
 use lib.ListN.{length}
-use Rattle.rules.specs.Below.{earliest, latest, tab, gather, rising}
+use Rattle.rules.specs.Below.{count, earliest, latest, tab, gather, rising}
 use Rattle.rules.specs.Rows.{Row, Table, none, rowAt, docAt, frameAt, parentAt, isShown, isDoc, inFrame, isFrame, place, flag, withFlags, climb}
 use Rattle.rules.specs.Steps.{same, isStep, upcoming, visible}
+use Rattle.rules.specs.Windows.{rootAt, inWindow, windowRows}
 
 -- "Fresh writes n = 1, next numbers 1 and 1, and the row (0, 0, none, 1)"
 abbrev pub freshTable : Table
@@ -23,6 +24,10 @@ opened t p =
       nextFrame = suc (t .nextFrame);
     }
 
+-- "Opening a window appends a root row with new numbers" (document 02, L10): parent none, shown, and both next numbers rise by one.
+unfoldable pub tabbed : Table → Table
+tabbed t = opened t none
+
 -- Row i passes q, or what is above it does: it stands at or beneath a row that passes.
 abbrev pub beneathAsk : (ℕ → Bool) → List Row → (ℕ → Bool) → ℕ → Bool
 beneathAsk q rows up k = q k || up (parentAt rows k)
@@ -34,9 +39,12 @@ gone q rows i = beneathAsk q rows (climb false (beneathAsk q rows) rows i) i
 unfoldable pub without : (ℕ → Bool) → List Row → List Row
 without q rows = gather (λ i. not (gone q rows i)) (rowAt rows) (length rows)
 
--- "removes every upcoming step in the window and everything beneath those, closes the gaps in order"
-abbrev pub cleared : List Row → List Row
-cleared rows = without (upcoming rows) rows
+-- "removes every upcoming step in the window and everything beneath those, closes the gaps in order": "the removal done by navigation" holds "per window" (document 02, L10).
+abbrev pub upcomingIn : ℕ → List Row → ℕ → Bool
+upcomingIn r rows i = inWindow r rows i && upcoming rows i
+
+abbrev pub cleared : ℕ → List Row → List Row
+cleared r rows = without (upcomingIn r rows) rows
 
 -- "makes d not shown"
 unfoldable pub hide : ℕ → List Row → List Row
@@ -46,7 +54,7 @@ hide d rows = withFlags (λ i. not (isDoc rows d i) && isShown rows i) rows
 unfoldable pub navigated : Table → ℕ → Table
 navigated t d =
     record {
-      rows = hide d (cleared (t .rows)) ++ record {
+      rows = hide d (cleared (rootAt (t .rows) (place (t .rows) d)) (t .rows)) ++ record {
         doc = t .nextDoc;
         frame = frameAt (t .rows) (place (t .rows) d);
         parent = parentAt (t .rows) (place (t .rows) d);
@@ -83,8 +91,13 @@ unfoldable pub walked : ℤ → List Row → List Row
 walked (pos k) rows = times k forward rows
 walked (negsuc k) rows = times (suc k) back rows
 
-abbrev pub traversed : Table → ℤ → Table
-traversed t δ = record { rows = walked δ (t .rows); nextDoc = t .nextDoc; nextFrame = t .nextFrame }
+-- The rows of window r get the flags of these, one after the other; "a call on one window leaves the other's rows as they were and in their order" (document 02, L10).
+unfoldable pub reflagged : ℕ → List Row → List Row → List Row
+reflagged r new rows = withFlags (λ i. cond (inWindow r rows i) (isShown new (count (inWindow r rows) i)) (isShown rows i)) rows
+
+-- "traversal [..] per window": of window r.
+unfoldable pub traversed : Table → ℕ → ℤ → Table
+traversed t r δ = record { rows = reflagged r (walked δ (windowRows r (t .rows))) (t .rows); nextDoc = t .nextDoc; nextFrame = t .nextFrame }
 
 -- "removal of a frame by its number: all its rows and all beneath them go, gaps close in order, the rest keeps its flags" (document 02, L1)
 abbrev pub dropped : Table → ℕ → Table

@@ -1,11 +1,12 @@
 -- The saved form as document 01 had it. "The old form has its own loading call, which accepts exactly what it accepted." (document 02, L7)
 use Prim.Native.Nat.{ℕ, suc, _-_, _<_}
-use mathlib.Core.Bool.{Bool, _&&_}
+use mathlib.Core.Bool.{Bool, not, _&&_, _||_}
 use mathlib.Core.List.{List, flatMap}
-use lib.Dec.{ltb}
+use mathlib.Core.Path.{_≡_}
+use lib.Dec.{eqb, ltb}
 use lib.ListN.{length}
 use Rattle.rules.specs.Below.{gather, allBelow}
-use Rattle.rules.specs.Rows.{Row, Table, rowAt, docAt, inRecord, place}
+use Rattle.rules.specs.Rows.{Row, Table, none, rowAt, docAt, frameAt, parentAt, inRecord, place}
 use Rattle.rules.specs.Sound.{SoundTable, soundTable?}
 use Rattle.rules.specs.Saved.{number, docsOf, savedWith, numberAt, toldRows, sameList}
 
@@ -33,13 +34,24 @@ pub record S2rising (rows : List Row) (nextDoc : ℕ) : Type 0 where
 abbrev pub s2rising? : List Row → ℕ → Bool
 s2rising? rows nextDoc = allBelow (length rows - 1) (λ i. ltb (docAt rows i) (docAt rows (suc i))) && ltb (docAt rows (length rows - 1)) nextDoc
 
--- A table that was sound then.
+-- S5's second sentence as document 01 had it: "All rows without a parent are one frame (the root frame)."
+pub record S5alone (rows : List Row) : Type 0 where
+  pub root : (i j : ℕ) → i < length rows → j < length rows → parentAt rows i ≡ none → parentAt rows j ≡ none → frameAt rows i ≡ frameAt rows j
+
+abbrev pub root? : List Row → ℕ → ℕ → Bool
+root? rows i j = not (eqb (parentAt rows i) none && eqb (parentAt rows j) none) || eqb (frameAt rows i) (frameAt rows j)
+
+abbrev pub s5alone? : List Row → Bool
+s5alone? rows = allBelow (length rows) (λ i. allBelow (length rows) (root? rows i))
+
+-- A table that was sound then: "new-form loading follows the wider S5, old-form loading the narrow one" (document 02, L10). With one root frame S7 is that of all rows.
 pub record OldTable (room : ℕ) (t : Table) : Type 0 where
   pub sound : SoundTable room t
   pub order : S2rising (t .rows) (t .nextDoc)
+  pub alone : S5alone (t .rows)
 
 unfoldable pub oldTable? : ℕ → Table → Bool
-oldTable? room t = soundTable? room t && s2rising? (t .rows) (t .nextDoc)
+oldTable? room t = soundTable? room t && (s2rising? (t .rows) (t .nextDoc) && s5alone? (t .rows))
 
 -- "bytes that Save would write for some sound record of at most 512 rows", as both were then
 unfoldable pub fromOldSave? : List ℕ → Bool

@@ -1,4 +1,4 @@
--- "A record is sound when all hold": each rule as a proposition in document 01's words (S2: 02's, L7) and as a test that computes (marked `?`).
+-- "A record is sound when all hold": each rule as a proposition in document 01's words (S2: 02's, L7; S5 and S7: 02's, L10) and as a test that computes (marked `?`).
 use Prim.Native.Nat.{ℕ, _+_, _*_, _≤_, _<_}
 use mathlib.Core.Bool.{Bool, not, _&&_, _||_, So}
 use mathlib.Core.List.{List}
@@ -9,6 +9,7 @@ use lib.ListN.{length, getD}
 use Rattle.rules.specs.Below.{someBelow, allBelow, count}
 use Rattle.rules.specs.Rows.{Row, Table, none, docAt, frameAt, parentAt, shownAt, isShown, isDoc}
 use Rattle.rules.specs.Steps.{same, isStep, upcoming}
+use Rattle.rules.specs.Windows.{rootAt}
 use Rattle.rules.specs.Words.{capacity, tableOf}
 
 -- "S1. 1 ≤ n ≤ C."
@@ -45,19 +46,15 @@ pub record S4 (rows : List Row) : Type 0 where
 abbrev pub s4? : List Row → Bool
 s4? rows = allBelow (length rows) (λ i. eqb (parentAt rows i) none || someBelow i (isDoc rows (parentAt rows i)))
 
--- "S5. Rows of one frame have one parent. All rows without a parent are one frame (the root frame)."
+-- "S5. Rows of one frame have one parent." It "now allows several root frames": document 01's second sentence is gone (document 02, L10).
 pub record S5 (rows : List Row) : Type 0 where
   pub kin : (i j : ℕ) → i < length rows → j < length rows → frameAt rows i ≡ frameAt rows j → parentAt rows i ≡ parentAt rows j
-  pub root : (i j : ℕ) → i < length rows → j < length rows → parentAt rows i ≡ none → parentAt rows j ≡ none → frameAt rows i ≡ frameAt rows j
 
 abbrev pub kin? : List Row → ℕ → ℕ → Bool
 kin? rows i j = not (eqb (frameAt rows i) (frameAt rows j)) || eqb (parentAt rows i) (parentAt rows j)
 
-abbrev pub root? : List Row → ℕ → ℕ → Bool
-root? rows i j = not (eqb (parentAt rows i) none && eqb (parentAt rows j) none) || eqb (frameAt rows i) (frameAt rows j)
-
 abbrev pub s5? : List Row → Bool
-s5? rows = allBelow (length rows) (λ i. allBelow (length rows) (λ j. kin? rows i j && root? rows i j))
+s5? rows = allBelow (length rows) (λ i. allBelow (length rows) (kin? rows i))
 
 -- "S6. Shown is 0 or 1, and each frame has exactly one shown row."
 pub record S6 (rows : List Row) : Type 0 where
@@ -68,13 +65,14 @@ abbrev pub s6? : List Row → Bool
 s6? rows =
     allBelow (length rows) (λ i. leb (shownAt rows i) 1 && eqb (count (λ k. same (frameAt rows) i k && isShown rows k) (length rows)) 1)
 
--- "S7. Every upcoming step is later than every shown document that is a step (001, definition 5)."
+-- "S7. Every upcoming step is later than every shown document that is a step (001, definition 5)", and this "per window" (document 02, L10).
 pub record S7 (rows : List Row) : Type 0 where
-  pub later : (i j : ℕ) → i < length rows → j < length rows → So (upcoming rows i) → So (isStep rows j) → So (isShown rows j) → j < i
+  pub later : (i j : ℕ) → i < length rows → j < length rows → rootAt rows i ≡ rootAt rows j → So (upcoming rows i) → So (isStep rows j) → So (isShown rows j) → j < i
 
 abbrev pub s7? : List Row → Bool
 s7? rows =
-    allBelow (length rows) (λ i. allBelow (length rows) (λ j. not (upcoming rows i && (isStep rows j && isShown rows j)) || ltb j i))
+    allBelow (length rows) (λ i. allBelow (length rows) (λ j.
+    not (upcoming rows i && (isStep rows j && (isShown rows j && eqb (rootAt rows i) (rootAt rows j)))) || ltb j i))
 
 -- "S8. The words of rows n to C - 1 are zero."
 pub record S8 (words : List ℕ) : Type 0 where

@@ -33,7 +33,7 @@ fn answer(
     changes: &mut [u32],
     out: &mut [u8],
 ) -> Told
-    requires { ⌜ (65 ≤ length (now line)) × (66 ≤ length (now out)) ⌝ }
+    requires { ⌜ (65 ≤ length (now line)) × (67 ≤ length (now out)) ⌝ }
 {
     let mut at = 0;
     let mut len = kept;
@@ -63,7 +63,7 @@ fn take(
     changes: &mut [u32],
     out: &mut [u8],
 ) -> Input
-    requires { ⌜ (65 ≤ length (now line)) × (66 ≤ length (now out)) ⌝ }
+    requires { ⌜ (65 ≤ length (now line)) × (67 ≤ length (now out)) ⌝ }
 {
     let got = libc::read(0, buf);
     if got < 0 {
@@ -91,7 +91,7 @@ fn finish(line: &[u8], kept: usize, words: &mut [u32], changes: &mut [u32], out:
 
 // Reads until the input ends or fails. A proved loop has to end, so the reads are counted down from a number that no run uses up.
 fn run(buf: &mut [u8], line: &mut [u8], words: &mut [u32], changes: &mut [u32], out: &mut [u8])
-    requires { ⌜ (65 ≤ length (now line)) × (66 ≤ length (now out)) ⌝ }
+    requires { ⌜ (65 ≤ length (now line)) × (67 ≤ length (now out)) ⌝ }
 {
     let mut left = u64::MAX;
     let mut kept: usize = 0;

@@ -1,28 +1,33 @@
 -- What the examination tells its callers: the first two rungs of their ladders. Assumes nothing.
 use Prim.Native.Nat.{ℕ, _≤_}
-use mathlib.Core.Bool.{true, false, cond}
+use mathlib.Core.Bool.{true, false, So, cond}
 use mathlib.Core.List.{List, _∷_}
 use mathlib.Core.Logic.{inl, inr}
 use mathlib.Core.Path.{_≡_, refl, sym, ap, subst, _∙_}
 use native.Mathlib.Omega.{arith}
 use lib.ListN.{length}
-use borrow.Author.Tests.{ltb-false}
+use borrow.Author.Tests.{ltb-false, eq-eqb, ne-eqb}
 use Rattle.base.specs.declared.Refusal.{Refusal}
 use Rattle.base.specs.declared.Refusal.the-variants.{ShortRecord, Unsound}
 use Rattle.base.specs.Numbers.{numberOf, carriedBy}
+use Rattle.rules.specs.Below.{count}
+use Rattle.rules.specs.Rows.{Row}
 use Rattle.rules.specs.Words.{capacity, rowsOf}
 use Rattle.rules.specs.Sound.{Sound, sound?}
 use Rattle.rules.specs.Calls.{Call, Answer, Rung, _when_, short, unsound, lentTo, refusals, outcome, Given, NoneGiven}
 use Rattle.laws.proofs.Calls.{outcome-refused}
 use Rattle.laws.proofs.Tests.{test}
 use Rattle.laws.proofs.Reflect.{sound-is}
+use Rattle.sound.specs.Quick.{begins}
+use Rattle.sound.specs.Pass.{Passed}
+use Rattle.sound.specs.declared.Pass.{Pass}
 use Rattle.sound.specs.Check.{checkOf, Examined, Settles, Judged}
 use Rattle.sound.specs.declared.Check.{Check}
 use Rattle.sound.specs.declared.Check.the-variants.{Sound as Fine, No}
-use Rattle.sound.specs.Survey.{standOf, surveyOf, Located}
+use Rattle.sound.specs.Survey.{alone?, standOf, surveyOf, Located}
 use Rattle.sound.specs.declared.Stand.{Stand}
 use Rattle.sound.specs.declared.Survey.{Survey}
-use Rattle.sound.specs.declared.Survey.the-variants.{Stands, No as Survey·No}
+use Rattle.sound.specs.declared.Survey.the-variants.{Stands, Several, No as Survey·No}
 
 -- Refusals 1 and 2, or what is fine: as the answer of any type that can refuse.
 module _ {A : Type 0} (no : Refusal → A) (fine : A) (words : List ℕ) where
@@ -58,6 +63,31 @@ module _ {A : Type 0} (no : Refusal → A) (fine : A) (words : List ℕ) where
       (λ t. (record { long = o; passes = t }, rw (o, t) at (sym e ∙ f)))
       (λ t. absurd (other Unsound (rw (o, t) at (sym e ∙ f)))))
 
+-- What is fine: one window stands so, or there are several.
+abbrev pub found : List Row → Survey
+found rows = cond (alone? rows) (Stands (standOf rows)) Several
+
+-- WHAT IS FOUND, BY WHAT THE PASS KNOWS
+
+module _ (rows : List Row) (p : Pass) (w : Passed rows (length rows) p) where
+  -- One row begins a window: there is one, and the answer is where it stands.
+  pub alone-so : p .roots ≡ 1 → So (alone? rows)
+  alone-so e = eq-eqb _ _ (sym (w .roots-are) ∙ e)
+
+  pub found-one : p .roots ≡ 1 → Stands (standOf rows) ≡ found rows
+  found-one e = rw (alone-so e) refl
+
+  -- Not just one does: there are several.
+  pub found-several : (p .roots ≡ 1 → ⊥) → Several ≡ found rows
+  found-several ne = rw (ne-eqb (count (begins rows) (length rows)) 1 (λ e. ne (w .roots-are ∙ e))) refl
+
+-- It is no refusal.
+found-fine : (rows : List Row) (a : Refusal) → found rows ≡ Survey·No a → ⊥
+found-fine rows a q =
+    test (alone? rows)
+    (λ t. let z : Stands (standOf rows) ≡ Survey·No a = rw t at q in let y : _≡_ {A = ℕ} 0 1 = cc in omega arith)
+    (λ t. let z : Several ≡ Survey·No a = rw t at q in let y : _≡_ {A = ℕ} 0 1 = cc in omega arith)
+
 module _ (words : List ℕ) where
   pub check-given : (rest : List Rung) (k : Check) (r : Refusal) → k ≡ checkOf words → k ≡ No r → Given (numberOf r) (carriedBy r) (1 when short words ∷ 2 when unsound words ∷ rest)
   unfolding checkOf
@@ -70,14 +100,20 @@ module _ (words : List ℕ) where
   -- Refused: by the first two rungs, whatever follows.
   pub survey-given : (rest : List Rung) (k : Survey) (r : Refusal) → k ≡ surveyOf words → k ≡ Survey·No r → Given (numberOf r) (carriedBy r) (1 when short words ∷ 2 when unsound words ∷ rest)
   unfolding surveyOf
-  survey-given = checked-given Survey·No (Stands (standOf (rowsOf words))) words (λ a b q. cc) (λ a q. let z : _≡_ {A = ℕ} 0 1 = cc in omega arith)
+  survey-given = checked-given Survey·No (found (rowsOf words)) words (λ a b q. cc) (λ a q. absurd (found-fine (rowsOf words) a q))
 
-  -- Not refused: the record is examined, and the answer is where its window stands.
+  -- Not refused: the record is examined; it has one window, and the answer is where that stands, or several.
   pub survey-stands : (k : Survey) (s : Stand) → k ≡ surveyOf words → k ≡ Stands s → Located words s
   unfolding surveyOf
   survey-stands k s e f =
-      let r = checked-passes Survey·No (Stands (standOf (rowsOf words))) words k (Stands s) (λ a q. let z : _≡_ {A = ℕ} 0 1 = cc in omega arith) e f in
-      let q : Stands (standOf (rowsOf words)) ≡ Stands s = r .1 in (r .0, cc)
+      let r = checked-passes Survey·No (found (rowsOf words)) words k (Stands s) (λ a q. let z : _≡_ {A = ℕ} 0 1 = cc in omega arith) e f in
+      test (alone? (rowsOf words))
+      (λ t. let q : Stands (standOf (rowsOf words)) ≡ Stands s = rw t at (r .1) in record { examined = r .0; alone = t; stand-is = cc })
+      (λ t. let q : Several ≡ Stands s = rw t at (r .1) in absurd (let z : _≡_ {A = ℕ} 0 1 = cc in omega arith))
+
+  pub survey-several : (k : Survey) → k ≡ surveyOf words → k ≡ Several → Examined words
+  unfolding surveyOf
+  survey-several k e f = checked-passes Survey·No (found (rowsOf words)) words k Several (λ a q. let z : _≡_ {A = ℕ} 0 1 = cc in omega arith) e f .0
 
 -- What an examined record gives.
 module _ (words : List ℕ) (e : Examined words) where

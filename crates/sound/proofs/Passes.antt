@@ -1,6 +1,7 @@
 -- What the pass of the test tells, in the code's shape. Assumes nothing.
 use Prim.Native.Nat.{ℕ, _+_, _-_, _*_, _≤_, _<_, max}
-use mathlib.Core.Bool.{Bool, true, false, not, _&&_, _||_, So, false≢true, and-eq-true-iff}
+use mathlib.Core.Bool.{Bool, true, false, not, _&&_, _||_, So, cond, false≢true, and-eq-true-iff}
+use mathlib.Core.Logic.{⊎-elim}
 use mathlib.Core.List.{List}
 use mathlib.Core.Path.{_≡_, refl, sym, ap, subst, _∙_}
 use native.Mathlib.Numerals.{add-one}
@@ -22,27 +23,34 @@ use Rattle.laws.proofs.Words.{rows-length}
 use Rattle.reads.specs.Found.{foundBelow}
 use Rattle.reads.specs.declared.Found.{Found}
 use Rattle.reads.specs.declared.Found.the-variants.{At, Nothing}
-use Rattle.laws.proofs.Tests.{test, clash, off, and-true, or-false, some-in, some-out, all-in, all-out, count-yes, count-no}
+use Rattle.laws.proofs.Tests.{test, clash, off, or-left, or-right, or-cases, or-false, some-in, some-out, all-in, all-out, count-yes, count-no}
 use Rattle.reads.specs.Within.{Within}
 use Rattle.reads.specs.Under.{Under}
 use Rattle.laws.proofs.Loops.{all-flag, count-more, earliest-none, latest-yes, latest-no}
 use Rattle.reads.proofs.Scans.{found-at, found-lower, found-nothing, under-more}
-use Rattle.sound.specs.Quick.{bounded, linked, comes, calm, joined, rowFine, evenly, quick?}
-use Rattle.sound.specs.Pass.{Passed, Onward, StepAfter, TellsTo, Tells, upcomingOf}
+use Rattle.sound.specs.Quick.{bounded, headed, linked, comes, quiet, begins, rowFine, evenly, kept?}
+use Rattle.sound.specs.Pass.{Passed, Onward, StepAfter, TellsTo, Tells, lateOf}
 use Rattle.sound.specs.declared.Pass.{Pass}
-use Rattle.sound.specs.declared.Tested.{Tested}
 use Rattle.sound.specs.declared.Tested.the-variants.{Holds}
 
 module _ (rows : List Row) (i : ℕ) where
-  -- The parent is known, found, or not found.
-  pub parent-known : (up known : ℕ) → up ≡ parentAt rows i → up ≡ known → someBelow i (isDoc rows known) ≡ true → true ≡ someBelow i (isDoc rows (parentAt rows i))
-  parent-known up known e k h = sym (subst (λ d. someBelow i (isDoc rows d) ≡ true) (sym k ∙ e) h)
+  -- The parent is known, none, found, or not found.
+  pub headed-known : (up known : ℕ) → up ≡ parentAt rows i → up ≡ known → someBelow i (isDoc rows known) ≡ true → true ≡ headed rows i
+  unfolding headed
+  headed-known up known e k h = sym (or-right (eqb (parentAt rows i) none) (subst (λ d. someBelow i (isDoc rows d) ≡ true) (sym k ∙ e) h))
 
-  pub parent-found : (up : ℕ) (r : Found) (q : RowPlace) → up ≡ parentAt rows i → r ≡ foundBelow (isDoc rows up) i → r ≡ At q → true ≡ someBelow i (isDoc rows (parentAt rows i))
-  parent-found up r q e f h = sym (subst (λ d. someBelow i (isDoc rows d) ≡ true) e (found-at (isDoc rows up) i q (sym f ∙ h) .0))
+  pub headed-none : (up : ℕ) → up ≡ parentAt rows i → up ≡ none → true ≡ headed rows i
+  unfolding headed
+  headed-none up e z = sym (or-left (someBelow i (isDoc rows (parentAt rows i))) (eq-eqb _ _ (sym e ∙ z)))
 
-  pub parent-lost : (up : ℕ) (r : Found) → up ≡ parentAt rows i → r ≡ foundBelow (isDoc rows up) i → r ≡ Nothing → false ≡ someBelow i (isDoc rows (parentAt rows i))
-  parent-lost up r e f h = sym (subst (λ d. someBelow i (isDoc rows d) ≡ false) e (found-nothing (isDoc rows up) i (sym f ∙ h)))
+  pub headed-found : (up : ℕ) (r : Found) (q : RowPlace) → up ≡ parentAt rows i → r ≡ foundBelow (isDoc rows up) i → r ≡ At q → true ≡ headed rows i
+  unfolding headed
+  headed-found up r q e f h = sym (or-right (eqb (parentAt rows i) none) (subst (λ d. someBelow i (isDoc rows d) ≡ true) e (found-at (isDoc rows up) i q (sym f ∙ h) .0)))
+
+  pub headed-lost : (up : ℕ) (r : Found) → up ≡ parentAt rows i → (up ≡ none → ⊥) → r ≡ foundBelow (isDoc rows up) i → r ≡ Nothing → false ≡ headed rows i
+  unfolding headed
+  headed-lost up r e ne f h =
+      sym (rw (ne-eqb (parentAt rows i) none (λ z. ne (e ∙ z)), subst (λ d. someBelow i (isDoc rows d) ≡ false) e (found-nothing (isDoc rows up) i (sym f ∙ h))) refl)
 
   -- A step and a frame's first row.
   pub step-after : (r : Found) (j : RowPlace) → r ≡ foundBelow (same (frameAt rows) i) i → r ≡ At j → StepAfter rows i (j .0)
@@ -51,6 +59,13 @@ module _ (rows : List Row) (i : ℕ) where
 
   pub bounded-is : (top f s : ℕ) → f ≡ frameAt rows i → s ≡ shownAt rows i → (ltb f top && leb s 1) ≡ bounded rows top i
   bounded-is top f s e g = rw (e, g) refl
+
+  -- A flag of 0 or 1 that is not 0.
+  flag-set : (s : ℕ) → s ≡ shownAt rows i → shownAt rows i ≤ 1 → not (eqb s 0) ≡ isShown rows i
+  flag-set s e l =
+      test (eqb s 0)
+      (λ z. rw (z, ne-eqb (shownAt rows i) 1 (λ q. omega (arith, eqb-true s 0 z))) refl)
+      (λ z. rw (z, eq-eqb (shownAt rows i) 1 (omega (arith, eqb-false s 0 z))) refl)
 
   bit-is : shownAt rows i ≤ 1 → shownAt rows i ≡ boolByte (isShown rows i)
   bit-is l = test (isShown rows i) (λ t. rw t (eqb-true (shownAt rows i) 1 t)) (λ f. let z : shownAt rows i ≡ 0 = omega (arith, eqb-false (shownAt rows i) 1 f) in rw f z)
@@ -81,20 +96,26 @@ module _ (p : ℕ → Bool) (i : ℕ) where
       (λ n. let t : p i ≡ true = rw (add-one i, n) at h in rw (n, t) (sym (earliest-none p i n))))
 
 module _ (rows : List Row) where
-  -- The first row of a frame, and how many there are before a place.
+  -- The first row of a frame, and how many there are before a place; a shown step after an upcoming one.
   abbrev opens : ℕ → Bool
   opens k = not (isStep rows k)
 
-  pub passed-start : (s : ℕ) (high : FrameNo) (known : DocNo) → s ≡ shownAt rows 0 → shownAt rows 0 ≤ 1 → high .0 ≡ frameAt rows 0 → known .0 ≡ docAt rows 0 →
-      Passed rows 1 (record { late = false; shown = s; frames = 1; high = high; known = known; upcoming = record { 0 = 0 }; begun = 0; last = record { 0 = 0 } })
-  unfolding someBelow count earliest latest comes step
-  passed-start s high known a l c d =
+  abbrev breaks : ℕ → Bool
+  breaks k = not (quiet rows k)
+
+  pub passed-start : (s : ℕ) (high : FrameNo) (known : DocNo) → s ≡ shownAt rows 0 → shownAt rows 0 ≤ 1 → parentAt rows 0 ≡ none → high .0 ≡ frameAt rows 0 → known .0 ≡ docAt rows 0 →
+      Passed rows 1 (record { late = false; broken = false; shown = s; frames = 1; roots = 1; high = high; known = known; upcoming = record { 0 = 0 }; begun = 0; last = record { 0 = 0 } })
+  unfolding someBelow count earliest latest comes quiet begins step
+  passed-start s high known a l z c d =
       record {
         late-is = refl;
+        broken-is = refl;
         shown-are = a ∙ bit-is rows 0 l ∙ test (isShown rows 0) (λ t. rw t refl) (λ t. rw t refl);
         frames-are = refl;
+        roots-are = rw (eq-eqb (parentAt rows 0) none z) refl;
         few-shown = omega arith;
         few-frames = omega arith;
+        few-roots = omega arith;
         under = λ k l. let e : k ≡ 0 = omega arith in rw e (omega arith);
         known-is = eq-eqb (docAt rows 0) (known .0) (sym d);
         upcoming-is = λ t. absurd (false≢true t);
@@ -115,88 +136,91 @@ module _ (rows : List Row) where
       unfolding linked
       linked-step = rw (w .step, ← w .prior, f, g) refl
 
-      calm-step : calm rows i ≡ not (isShown rows i && someBelow (i + 1) (comes rows))
-      unfolding calm
-      calm-step = rw (w .step, add-one i) refl
+      quiet-step : quiet rows i ≡ not (isShown rows i && someBelow (i + 1) (comes rows))
+      unfolding quiet
+      quiet-step = rw (w .step, add-one i) refl
 
       same-frames : count opens (i + 1) ≡ count opens i
       same-frames = ap (count opens) (add-one i) ∙ count-no opens i (rw (w .step) refl)
+
+      same-roots : count (begins rows) (i + 1) ≡ count (begins rows) i
+      unfolding begins
+      same-roots = ap (count (begins rows)) (add-one i) ∙ count-no (begins rows) i (rw (w .step) refl)
 
       late-step : (v : Bool) → v ≡ isShown rows j → (p .late || v) ≡ someBelow (i + 1) (comes rows)
       unfolding comes
       late-step v h = some-or (comes rows) i (p .late) v (r .late-is) (rw (w .step, ← w .prior) h)
 
       -- Its parent is another.
-      pub step-unlinked : (a ≡ b → ⊥) → joined rows i ≡ false
-      unfolding joined
-      step-unlinked ne = rw (linked-step, ne-eqb a b ne) refl
+      pub step-unlinked : (a ≡ b → ⊥) → linked rows i ≡ false
+      step-unlinked ne = linked-step ∙ ne-eqb a b ne
 
       module _ (same : a ≡ b) where
-        -- It is upcoming: the first one at `up`, which so many frames began before.
+        linked-so : linked rows i ≡ true
+        linked-so = linked-step ∙ eq-eqb a b same
+
+        -- Some are upcoming by now: the first one at `up`, which so many frames began before.
         ahead : (up : RowPlace) (begun : ℕ) → someBelow (i + 1) (comes rows) ≡ true → up .0 ≡ earliest (comes rows) (i + 1) → begun ≡ count opens (earliest (comes rows) (i + 1)) →
-            TellsTo rows (i + 1) (joined rows i) (upcomingOf s up begun p)
-        unfolding joined
+            Passed rows (i + 1) (lateOf s up begun p)
         ahead up begun late u k =
-            test (eqb s 0)
-            (λ z.
-            let hid : isShown rows i ≡ false = ne-eqb (shownAt rows i) 1 (λ q. omega (arith, eqb-true s 0 z)) in
-            let n : s ≡ 0 = eqb-true s 0 z in
-            rw z (
-              rw (linked-step, eq-eqb a b same, calm-step, hid) refl,
-              record {
-                late-is = sym late;
-                shown-are = omega (arith, shown-more s e);
-                frames-are = r .frames-are ∙ sym same-frames;
-                few-shown = omega (arith, r .few-shown);
-                few-frames = omega (arith, r .few-frames);
-                under = under-step (frameAt rows) i (p .high .0) (r .under) (w .step);
-                known-is = some-grows (isDoc rows (p .known .0)) i (r .known-is);
-                upcoming-is = λ t. u;
-                begun-is = λ t. k;
-                last-is = r .last-is ∙ ap (latest (isStep rows)) (sym (earliest-stays (comes rows) i late));
-              },
-            ))
-            (λ z.
-            let shown : isShown rows i ≡ true = eq-eqb (shownAt rows i) 1 (omega (arith, o .bit, eqb-false s 0 z)) in
-            rw z (rw (linked-step, eq-eqb a b same, calm-step, shown, late) refl))
+            let loud : breaks i ≡ isShown rows i = ap not quiet-step ∙ rw late (test (isShown rows i) (λ t. rw t refl) (λ t. rw t refl)) in
+            record {
+              late-is = sym late;
+              broken-is = some-or breaks i (p .broken) (not (eqb s 0)) (r .broken-is) (flag-set rows i s e (o .bit) ∙ sym loud);
+              shown-are = shown-more s e;
+              frames-are = r .frames-are ∙ sym same-frames;
+              roots-are = r .roots-are ∙ sym same-roots;
+              few-shown = omega (arith, r .few-shown, o .bit);
+              few-frames = omega (arith, r .few-frames);
+              few-roots = omega (arith, r .few-roots);
+              under = under-step (frameAt rows) i (p .high .0) (r .under) (w .step);
+              known-is = some-grows (isDoc rows (p .known .0)) i (r .known-is);
+              upcoming-is = λ t. u;
+              begun-is = λ t. k;
+              last-is = r .last-is ∙ ap (latest (isStep rows)) (sym (earliest-stays (comes rows) i late));
+            }
 
         -- Some were upcoming before it.
-        pub step-late : (q : Tested) → p .late ≡ true → q ≡ upcomingOf s (p .upcoming) (p .begun) p → TellsTo rows (i + 1) (joined rows i) q
+        pub step-late : (q : Pass) → p .late ≡ true → q ≡ lateOf s (p .upcoming) (p .begun) p → TellsTo rows (i + 1) (linked rows i) (Holds q)
         step-late q t d =
             let late = some-grows (comes rows) i (sym (r .late-is) ∙ t) in
             let stays = earliest-stays (comes rows) i late in
-            subst (TellsTo rows (i + 1) (joined rows i)) (sym d) (ahead (p .upcoming) (p .begun) late (r .upcoming-is t ∙ sym stays) (r .begun-is t ∙ ap (count opens) (sym stays)))
+            (linked-so, subst (Passed rows (i + 1)) (sym d) (ahead (p .upcoming) (p .begun) late (r .upcoming-is t ∙ sym stays) (r .begun-is t ∙ ap (count opens) (sym stays))))
 
         -- It is the first one.
-        pub step-turns : (at : RowPlace) (v : Bool) (q : Tested) → at .0 ≡ i → v ≡ isShown rows j → p .late ≡ false → v ≡ true → q ≡ upcomingOf s at (p .frames) p → TellsTo rows (i + 1) (joined rows i) q
+        pub step-turns : (at : RowPlace) (v : Bool) (q : Pass) → at .0 ≡ i → v ≡ isShown rows j → p .late ≡ false → v ≡ true → q ≡ lateOf s at (p .frames) p → TellsTo rows (i + 1) (linked rows i) (Holds q)
         step-turns at v q h c f t d =
             let late : someBelow (i + 1) (comes rows) ≡ true = sym (late-step v c) ∙ rw (f, t) refl in
             let here : earliest (comes rows) (i + 1) ≡ i = earliest-stays (comes rows) i late ∙ earliest-none (comes rows) i (sym (r .late-is) ∙ f) in
-            subst (TellsTo rows (i + 1) (joined rows i)) (sym d) (ahead at (p .frames) late (h ∙ sym here) (r .frames-are ∙ ap (count opens) (sym here)))
+            (linked-so, subst (Passed rows (i + 1)) (sym d) (ahead at (p .frames) late (h ∙ sym here) (r .frames-are ∙ ap (count opens) (sym here))))
 
         -- It is taken.
         pub step-taken : (at : RowPlace) (v : Bool) → at .0 ≡ i → v ≡ isShown rows j → p .late ≡ false → v ≡ false →
-            TellsTo rows (i + 1) (joined rows i) (Holds (record {
+            TellsTo rows (i + 1) (linked rows i) (Holds (record {
               late = false;
+              broken = p .broken;
               shown = p .shown + s;
               frames = p .frames;
+              roots = p .roots;
               high = p .high;
               known = p .known;
               upcoming = p .upcoming;
               begun = p .begun;
               last = at;
             }))
-        unfolding joined
         step-taken at v h q f t =
             let none : someBelow (i + 1) (comes rows) ≡ false = sym (late-step v q) ∙ rw (f, t) refl in
-            let calmly : calm rows i ≡ true = calm-step ∙ rw none (test (isShown rows i) (λ t. rw t refl) (λ t. rw t refl)) in (
-              rw (linked-step, eq-eqb a b same, calmly) refl,
+            let still : breaks i ≡ false = ap not quiet-step ∙ rw none (test (isShown rows i) (λ t. rw t refl) (λ t. rw t refl)) in (
+              linked-so,
               record {
                 late-is = sym none;
+                broken-is = sym (or-false (p .broken)) ∙ some-or breaks i (p .broken) false (r .broken-is) (sym still);
                 shown-are = shown-more s e;
                 frames-are = r .frames-are ∙ sym same-frames;
+                roots-are = r .roots-are ∙ sym same-roots;
                 few-shown = omega (arith, r .few-shown, o .bit);
                 few-frames = omega (arith, r .few-frames);
+                few-roots = omega (arith, r .few-roots);
                 under = under-step (frameAt rows) i (p .high .0) (r .under) (w .step);
                 known-is = some-grows (isDoc rows (p .known .0)) i (r .known-is);
                 upcoming-is = λ t. absurd (false≢true t);
@@ -206,39 +230,47 @@ module _ (rows : List Row) where
             )
 
     -- A FRAME'S FIRST ROW
-    module _ (later : 0 < i) (n : isStep rows i ≡ false) (v : Bool) (f : v ≡ someBelow i (isDoc rows (parentAt rows i))) where
-      joined-first : joined rows i ≡ v
-      unfolding joined linked calm
-      joined-first = rw (n, ne-eqb i 0 (λ z. omega arith), ← f) (and-true v)
+    module _ (n : isStep rows i ≡ false) (v : Bool) (f : v ≡ headed rows i) where
+      linked-first : linked rows i ≡ v
+      unfolding linked
+      linked-first = rw n (sym f)
 
-      pub first-lost : v ≡ false → joined rows i ≡ false
-      first-lost t = joined-first ∙ t
+      pub first-lost : v ≡ false → linked rows i ≡ false
+      first-lost t = linked-first ∙ t
 
-      pub first-found : (s : ℕ) (high : FrameNo) (known : DocNo) → v ≡ true → s ≡ shownAt rows i → high .0 ≡ max (p .high .0) (frameAt rows i) → known .0 ≡ parentAt rows i →
-          TellsTo rows (i + 1) (joined rows i) (Holds (record {
+      pub first-found : (s u : ℕ) (root : Bool) (high : FrameNo) (known : DocNo) → v ≡ true → s ≡ shownAt rows i → u ≡ parentAt rows i → root ≡ eqb u none →
+          high .0 ≡ max (p .high .0) (frameAt rows i) → known .0 ≡ cond root (p .known .0) u →
+          TellsTo rows (i + 1) (linked rows i) (Holds (record {
             late = p .late;
+            broken = p .broken;
             shown = p .shown + s;
             frames = p .frames + 1;
+            roots = p .roots + boolByte root;
             high = high;
             known = known;
             upcoming = p .upcoming;
             begun = p .begun;
             last = p .last;
           }))
-      unfolding comes
-      first-found s high known t e g h =
+      unfolding comes quiet begins headed
+      first-found s u root high known t e up top g h =
           let late : p .late ≡ someBelow (i + 1) (comes rows) = sym (or-false (p .late)) ∙ some-or (comes rows) i (p .late) false (r .late-is) (rw n refl) in
           let more = ap (count opens) (add-one i) ∙ count-yes opens i (rw n refl) in
           let stays : p .late ≡ true → earliest (comes rows) (i + 1) ≡ earliest (comes rows) i = λ t. earliest-stays (comes rows) i (sym late ∙ t) in (
-            joined-first ∙ t,
+            linked-first ∙ t,
             record {
               late-is = late;
+              broken-is = sym (or-false (p .broken)) ∙ some-or breaks i (p .broken) false (r .broken-is) (rw n refl);
               shown-are = shown-more s e;
               frames-are = omega (arith, r .frames-are, more);
+              roots-are = count-more (begins rows) i (p .roots) root (r .roots-are) (top ∙ rw (n, up) refl);
               few-shown = omega (arith, r .few-shown, o .bit);
               few-frames = omega (arith, r .few-frames);
+              few-roots = test root (λ t. rw t (omega (arith, r .few-roots))) (λ t. rw t (omega (arith, r .few-roots)));
               under = under-more (frameAt rows) i (p .high .0) (high .0) (r .under) g;
-              known-is = some-grows (isDoc rows (known .0)) i (rw (h, ← f) t);
+              known-is = some-grows (isDoc rows (known .0)) i (test root
+                  (λ y. rw (h, y) (r .known-is))
+                  (λ y. ⊎-elim (λ z. absurd (clash (top ∙ rw up z) y)) (λ z. rw (h, y, up) z) (or-cases (eqb (parentAt rows i) none) _ (sym f ∙ t))));
               upcoming-is = λ t. r .upcoming-is t ∙ sym (stays t);
               begun-is = λ t. r .begun-is t ∙ ap (count opens) (sym (stays t));
               last-is = r .last-is ∙ test (p .late)
@@ -250,59 +282,61 @@ module _ (rows : List Row) where
 
   -- THE VERDICT
   module _ (top : ℕ) where
-    fine-all : allBelow (length rows) (bounded rows top) ≡ true → allBelow (length rows) (joined rows) ≡ true → allBelow (length rows) (rowFine rows top) ≡ true
+    fine-all : allBelow (length rows) (bounded rows top) ≡ true → allBelow (length rows) (linked rows) ≡ true → allBelow (length rows) (rowFine rows top) ≡ true
     unfolding rowFine
-    fine-all h t = all-in (rowFine rows top) (length rows) (λ k l. rw (all-out (bounded rows top) (length rows) h k l, all-out (joined rows) (length rows) t k l) refl)
+    fine-all h t = all-in (rowFine rows top) (length rows) (λ k l. rw (all-out (bounded rows top) (length rows) h k l, all-out (linked rows) (length rows) t k l) refl)
 
     pub root-is : (b : Bool) (u : ℕ) → b ≡ bounded rows top 0 → u ≡ parentAt rows 0 → (b && eqb u none) ≡ rowFine rows top 0
-    unfolding rowFine joined linked calm step someBelow
-    root-is b u e f = rw (e, f, and-true (eqb (parentAt rows 0) none)) refl
+    unfolding rowFine linked headed step someBelow
+    root-is b u e f = rw (e, f, or-false (eqb (parentAt rows 0) none)) refl
 
-    pub root-goes : (b : Bool) → b ≡ rowFine rows top 0 → b ≡ true → (allBelow 1 (bounded rows top) ≡ true) × (allBelow 1 (joined rows) ≡ true) × (shownAt rows 0 ≤ 1)
-    unfolding rowFine allBelow
-    root-goes b e t = let u = simp and-eq-true-iff at (sym e ∙ t) in (simp and-eq-true-iff (refl, (u .0 .0, u .0 .1)), u .1, leb-true _ _ (u .0 .1))
+    pub root-goes : (b : Bool) → b ≡ rowFine rows top 0 → b ≡ true → (allBelow 1 (bounded rows top) ≡ true) × (allBelow 1 (linked rows) ≡ true) × (shownAt rows 0 ≤ 1) × (parentAt rows 0 ≡ none)
+    unfolding rowFine linked headed step someBelow allBelow
+    root-goes b e t =
+        let u = simp and-eq-true-iff at (sym e ∙ t) in
+        (simp and-eq-true-iff (refl, (u .0 .0, u .0 .1)), u .1, leb-true _ _ (u .0 .1), eqb-true _ _ (rw or-false at (u .1)))
 
     -- A row that keeps its bounds may be looked at further.
-    pub pass-goes : (i : ℕ) (b : Bool) (p : Pass) → b ≡ bounded rows top i → Passed rows i p → allBelow i (joined rows) ≡ true → b ≡ true → Onward rows i p
-    pass-goes i b p g s a t = let u = simp and-eq-true-iff at (sym g ∙ t) in record { passed = s; join = a; bit = leb-true _ _ (u .1) }
+    pub pass-goes : (i : ℕ) (b : Bool) (p : Pass) → b ≡ bounded rows top i → Passed rows i p → allBelow i (linked rows) ≡ true → b ≡ true → Onward rows i p
+    pass-goes i b p g s a t = let u = simp and-eq-true-iff at (sym g ∙ t) in record { passed = s; links = a; bit = leb-true _ _ (u .1) }
 
   module _ (next top : ℕ) where
     -- A row that fails ends the pass.
-    pub row-stops : (k : ℕ) → k < length rows → rowFine rows top k ≡ false → quick? rows next top ≡ false
-    unfolding quick?
+    pub row-stops : (k : ℕ) → k < length rows → rowFine rows top k ≡ false → kept? rows next top ≡ false
+    unfolding kept?
     row-stops k l f = rw (off (allBelow (length rows) (rowFine rows top)) (λ h. clash (all-out (rowFine rows top) (length rows) h k l) f)) refl
 
     module _ (i n : ℕ) (l : i < n) (e : n ≡ length rows) (b : Bool) (g : b ≡ bounded rows top i) where
-      pub pass-stops : b ≡ false → quick? rows next top ≡ false
+      pub pass-stops : b ≡ false → kept? rows next top ≡ false
       unfolding rowFine
       pass-stops f = row-stops i (omega arith) (rw (sym g ∙ f) refl)
 
-      pub pass-breaks : joined rows i ≡ false → quick? rows next top ≡ false
+      pub pass-breaks : linked rows i ≡ false → kept? rows next top ≡ false
       unfolding rowFine
       pass-breaks f = row-stops i (omega arith) (test (bounded rows top i) (λ t. rw (t, f) refl) (λ t. rw t refl))
 
     -- At the end of the rows.
-    module _ (i n : ℕ) (p : Pass) (s : Passed rows i p) (h : allBelow i (bounded rows top) ≡ true) (j : allBelow i (joined rows) ≡ true) (a : i ≤ n) (b : n ≤ i) (e : n ≡ length rows) where
+    module _ (i n : ℕ) (p : Pass) (s : Passed rows i p) (h : allBelow i (bounded rows top) ≡ true) (j : allBelow i (linked rows) ≡ true) (a : i ≤ n) (b : n ≤ i) (e : n ≡ length rows) where
       ends : i ≡ length rows
       ends = omega arith
 
       evenly-is : evenly rows ≡ eqb (p .shown) (p .frames)
       evenly-is = rw (s .shown-are, s .frames-are, ends) refl
 
-      pub pass-uneven : (p .shown ≡ p .frames → ⊥) → quick? rows next top ≡ false
-      unfolding quick?
+      pub pass-uneven : (p .shown ≡ p .frames → ⊥) → kept? rows next top ≡ false
+      unfolding kept?
       pass-uneven f = rw (fine-all top (rw ends at h) (rw ends at j), evenly-is ∙ ne-eqb (p .shown) (p .frames) f) refl
 
       -- What is left is S2.
-      pass-even : p .shown ≡ p .frames → quick? rows next top ≡ s2? rows next
-      unfolding quick?
+      pass-even : p .shown ≡ p .frames → kept? rows next top ≡ s2? rows next
+      unfolding kept?
       pass-even t = rw (fine-all top (rw ends at h) (rw ends at j), evenly-is ∙ eq-eqb (p .shown) (p .frames) t) refl
 
       module _ (even : p .shown ≡ p .frames) (v : Bool) (fit : v ≡ s2? rows next) where
-        pub pass-fails : v ≡ false → quick? rows next top ≡ false
+        pub pass-fails : v ≡ false → kept? rows next top ≡ false
         pass-fails f = pass-even even ∙ sym fit ∙ f
 
-        pub pass-holds : v ≡ true → Tells rows (quick? rows next top) (Holds p)
+        pub pass-holds : v ≡ true → Tells rows (kept? rows next top) (Holds p)
         pass-holds t = (pass-even even ∙ sym fit ∙ t, subst (λ k. Passed rows k p) ends s)
 
 -- THE WORDS PAST THE ROWS

@@ -7,7 +7,8 @@ use native.Mathlib.Omega.{arith}
 use lib.ListN.{length}
 use Rattle.rules.specs.Below.{count, earliest, latest}
 use Rattle.rules.specs.Steps.{isStep, taken, upcoming, position, steps}
-use Rattle.rules.specs.Words.{rowsOf}
+use Rattle.rules.specs.Rows.{none}
+use Rattle.rules.specs.Words.{tableOf, rowsOf}
 use Rattle.rules.specs.Sound.{sound?}
 use Rattle.laws.proofs.Tests.{test, count-most}
 use Rattle.laws.proofs.Loops.{earliest-none}
@@ -15,16 +16,17 @@ use Rattle.laws.proofs.Reflect.{sound-is}
 use Rattle.laws.proofs.Standing.{count-rest, steps-most, position-start, taken-start}
 use Rattle.sound.specs.Quick.{comes}
 use Rattle.sound.specs.Pass.{Passed}
-use Rattle.sound.specs.Survey.{standOf}
+use Rattle.sound.specs.Survey.{alone?, standOf}
 use Rattle.sound.specs.declared.Pass.{Pass}
 use Rattle.sound.proofs.Quick.{comes-start}
+use Rattle.sound.proofs.Alone.{alone-rows}
 
-module _ (words : List ℕ) (sound : So (sound? words)) (p : Pass) (w : Passed (rowsOf words) (length (rowsOf words)) p) (n : ℕ) (all : n ≡ length (rowsOf words)) where
+module _ (words : List ℕ) (sound : So (sound? words)) (one : So (alone? (rowsOf words))) (word : tableOf words .nextDoc ≤ none) (p : Pass) (w : Passed (rowsOf words) (length (rowsOf words)) p) (n : ℕ) (all : n ≡ length (rowsOf words)) where
   abbrev start : ℕ
   start = earliest (comes (rowsOf words)) (length (rowsOf words))
 
   start-is : start ≡ earliest (upcoming (rowsOf words)) (length (rowsOf words))
-  start-is = let s = sound-is words .0 sound .table in comes-start (rowsOf words) (s .s6) (s .s7)
+  start-is = comes-start (rowsOf words) (sound-is words .0 sound .table .s6)
 
   -- The place of the earliest upcoming step, and the frames that began before it, where there is one; else the rows' end, and all frames.
   abbrev here : ℕ
@@ -53,12 +55,12 @@ module _ (words : List ℕ) (sound : So (sound? words)) (p : Pass) (w : Passed (
 
   stand-position : here - begun ≡ position (rowsOf words)
   stand-position =
-      let s = sound-is words .0 sound .table in
+      let s = alone-rows words (sound-is words .0 sound) one word in
       omega (arith, here-is, begun-is, count-rest (isStep (rowsOf words)) start, ap (count (isStep (rowsOf words))) start-is ∙ position-start (rowsOf words) (s .s6) (s .s7))
 
   stand-last : p .last ≡ record { 0 = latest (taken (rowsOf words)) (length (rowsOf words)) }
   stand-last =
-      let s = sound-is words .0 sound .table in
+      let s = alone-rows words (sound-is words .0 sound) one word in
       ap (λ k. record { 0 = k }) (w .last-is ∙ ap (latest (isStep (rowsOf words))) start-is ∙ sym (taken-start (rowsOf words) (s .s6) (s .s7)))
 
   pub stand-is : record { frames = p .frames; steps = n - p .frames; position = here - begun; upcoming = record { 0 = here }; last = p .last } ≡ standOf (rowsOf words)

@@ -1,6 +1,6 @@
 -- What the pass of the test has seen. Definitions.
-use Prim.Native.Nat.{ℕ, _≤_, _<_}
-use mathlib.Core.Bool.{Bool, true, false, not, So, cond}
+use Prim.Native.Nat.{ℕ, _+_, _≤_, _<_}
+use mathlib.Core.Bool.{Bool, true, false, not, _||_, So}
 use mathlib.Core.List.{List}
 use mathlib.Core.Path.{_≡_}
 use lib.Dec.{eqb}
@@ -11,7 +11,7 @@ use Rattle.rules.specs.Rows.{Row, frameAt, shownAt, isShown, isDoc}
 use Rattle.rules.specs.Moves.{rowBefore}
 use Rattle.rules.specs.Steps.{isStep}
 use Rattle.reads.specs.Under.{Under}
-use Rattle.sound.specs.Quick.{comes, joined}
+use Rattle.sound.specs.Quick.{comes, quiet, begins, linked}
 use Rattle.sound.specs.declared.Pass.{Pass}
 use Rattle.sound.specs.declared.Tested.{Tested}
 use Rattle.sound.specs.declared.Tested.the-variants.{Fails, Holds}
@@ -19,20 +19,23 @@ use Rattle.sound.specs.declared.Tested.the-variants.{Fails, Holds}
 -- p tells of the rows before i.
 pub record Passed (rows : List Row) (i : ℕ) (p : Pass) : Type 0 where
   pub late-is : p .late ≡ someBelow i (comes rows)
+  pub broken-is : p .broken ≡ someBelow i (λ k. not (quiet rows k))
   pub shown-are : p .shown ≡ count (isShown rows) i
   pub frames-are : p .frames ≡ count (λ k. not (isStep rows k)) i
+  pub roots-are : p .roots ≡ count (begins rows) i
   pub few-shown : p .shown ≤ i
   pub few-frames : p .frames ≤ i
+  pub few-roots : p .roots ≤ i
   pub under : Under (frameAt rows) i (p .high .0)
   pub known-is : someBelow i (isDoc rows (p .known .0)) ≡ true
   pub upcoming-is : p .late ≡ true → p .upcoming .0 ≡ earliest (comes rows) i
   pub begun-is : p .late ≡ true → p .begun ≡ count (λ k. not (isStep rows k)) (earliest (comes rows) i)
   pub last-is : p .last .0 ≡ latest (isStep rows) (earliest (comes rows) i)
 
--- So far all rows join, and the flag of row i is 0 or 1.
+-- So far all rows are linked, and the flag of row i is 0 or 1.
 pub record Onward (rows : List Row) (i : ℕ) (p : Pass) : Type 0 where
   pub passed : Passed rows i p
-  pub join : allBelow i (joined rows) ≡ true
+  pub links : allBelow i (linked rows) ≡ true
   pub bit : shownAt rows i ≤ 1
 
 -- Row i is a step, and j is the row before it in its frame.
@@ -50,16 +53,18 @@ TellsTo rows i b (Holds p) = (b ≡ true) × Passed rows i p
 abbrev pub Tells : List Row → Bool → Tested → Type 0
 Tells rows = TellsTo rows (length rows)
 
--- The pass with an upcoming step more whose flag is s: it must not be shown.
-abbrev pub upcomingOf : ℕ → RowPlace → ℕ → Pass → Tested
-upcomingOf s upcoming begun p =
-    cond (eqb s 0) (Holds (record {
+-- The pass with a step more whose flag is s, once some are upcoming: the first at this place, and so many frames had begun before it.
+abbrev pub lateOf : ℕ → RowPlace → ℕ → Pass → Pass
+lateOf s upcoming begun p =
+    record {
       late = true;
-      shown = p .shown;
+      broken = p .broken || not (eqb s 0);
+      shown = p .shown + s;
       frames = p .frames;
+      roots = p .roots;
       high = p .high;
       known = p .known;
       upcoming = upcoming;
       begun = begun;
       last = p .last;
-    })) Fails
+    }

@@ -1,4 +1,7 @@
-// The test of S1 to S8 on arbitrary words, in one pass over the rows, with no array and no recursion. The pass tells besides where the window stands.
+// The test of S1 to S8 on arbitrary words, in one pass over the rows, with no array and no recursion. The pass tells besides where the window stands, where there is one.
+//
+// S7 is each window's own. Where no shown step of the table comes after an upcoming one, no window has such a step, and the pass is all that is asked; this is so of every
+// sound record of one window. Else, and only where there are several windows, each shown step is compared with the upcoming ones before it whose root frame is its own.
 //
 // What bounds it, for n rows: each row looks back for the row before it in its frame and stops there, and not at all where its frame number is above every earlier one;
 // a frame's first row looks back for its parent and stops there, and not at all where that is the parent found last. So at most two triangular scans (n * n / 2 row visits
@@ -18,23 +21,25 @@ ghost use mathlib.Core.Bool.{true, false, cond};
 ghost use Prim.Native.Nat.{_+_, _-_, _<_, _≤_, min, max};
 ghost use lib.ListN.{length};
 ghost use Rattle.rules.specs.Below.{someBelow, allBelow};
-ghost use Rattle.rules.specs.Rows.{docAt, parentAt, shownAt, isDoc};
+ghost use Rattle.rules.specs.Rows.{none, docAt, parentAt, shownAt, isDoc};
 ghost use Rattle.rules.specs.Steps.{isStep};
 ghost use Rattle.rules.specs.Words.{capacity, tableOf, rowsOf};
 ghost use Rattle.rules.specs.Sound.{s2?, s8?, sound?};
 ghost use Rattle.rules.specs.Calls.{short};
 ghost use Rattle.reads.specs.Within.{Within};
-ghost use Rattle.sound.specs.Quick.{bounded, joined, rowFine, quick?, ordered, alone, Spans};
-ghost use Rattle.sound.specs.Pass.{Passed, Onward, StepAfter, TellsTo, Tells, upcomingOf};
+ghost use Rattle.sound.specs.Quick.{bounded, headed, linked, comes, comesIn, calm, rowFine, kept?, quick?, Kept, ordered, alone, Spans};
+ghost use Rattle.sound.specs.Pass.{Passed, Onward, StepAfter, TellsTo, Tells, lateOf};
 ghost use Rattle.sound.specs.Check.{checkOf};
-ghost use Rattle.sound.specs.Survey.{standOf, surveyOf};
+ghost use Rattle.sound.specs.Survey.{alone?, standOf, surveyOf};
 
-// What a pass knows of the rows behind it: some upcoming, how many shown, how many frames, a bound on the frame numbers, the parent found last; of the first
-// upcoming one its place and how many frames had begun before it; and the latest step before that.
+// What a pass knows of the rows behind it: some upcoming, a shown step after an upcoming one, how many shown, how many frames, how many of them root frames, a bound on the
+// frame numbers, the parent found last; of the first upcoming one its place and how many frames had begun before it; and the latest step before that.
 pub struct Pass {
     pub late: bool,
+    pub broken: bool,
     pub shown: usize,
     pub frames: usize,
+    pub roots: usize,
     pub high: FrameNo,
     pub known: DocNo,
     pub upcoming: RowPlace,
@@ -48,13 +53,16 @@ enum Tested {
     Holds(Pass),
 }
 
-// Whether the parent of a row is the document of an earlier one, where `known` is.
-fn has_parent(words: &[u32], at: RowPlace, known: DocNo) -> bool
+// Whether a row has no parent, or that is the document of an earlier one, as `known` is.
+fn is_headed(words: &[u32], at: RowPlace, known: DocNo) -> bool
     requires { ⌜ Within (now words) (at .0) × (someBelow (at .0) (isDoc (rowsOf (now words)) (known .0)) ≡ true) ⌝ }
-    ensures { λ r. ⌜ r ≡ someBelow (at .0) (isDoc (rowsOf (now (words .entry))) (parentAt (rowsOf (now (words .entry))) (at .0))) ⌝ }
+    ensures { λ r. ⌜ r ≡ headed (rowsOf (now (words .entry))) (at .0) ⌝ }
 {
     let up = reads::parent(words, at);
     if up.0 == known.0 {
+        return true;
+    }
+    if up.0 == NONE {
         return true;
     }
     match reads::find_below(words, at, up) {
@@ -136,7 +144,7 @@ fn documents_fit(words: &[u32], n: usize, rises: bool, last: DocNo, next: DocNo)
 
 // The pass at the first row.
 fn pass_start(words: &[u32]) -> Pass
-    requires { ⌜ Within (now words) 0 × (shownAt (rowsOf (now words)) 0 ≤ 1) ⌝ }
+    requires { ⌜ Within (now words) 0 × (shownAt (rowsOf (now words)) 0 ≤ 1) × (parentAt (rowsOf (now words)) 0 ≡ none) ⌝ }
     ensures { λ r. ⌜ Passed (rowsOf (now (words .entry))) 1 r ⌝ }
 {
     let at = RowPlace(0);
@@ -145,8 +153,10 @@ fn pass_start(words: &[u32]) -> Pass
     let known = reads::document(words, at);
     Pass {
         late: false,
+        broken: false,
         shown,
         frames: 1,
+        roots: 1,
         high,
         known,
         upcoming: RowPlace(0),
@@ -155,50 +165,52 @@ fn pass_start(words: &[u32]) -> Pass
     }
 }
 
-// The pass with an upcoming step more, which must not be shown; the place of the first one, and how many frames had begun before it.
-fn pass_upcoming(shown: u32, upcoming: RowPlace, begun: usize, p: Pass) -> Tested
-    ensures { λ r. ⌜ r ≡ upcomingOf shown upcoming begun p ⌝ }
+// The pass with a step more, once some are upcoming: the place of the first one, and how many frames had begun before it.
+fn pass_late(shown: u32, upcoming: RowPlace, begun: usize, p: Pass) -> Pass
+    requires { ⌜ (p .shown ≤ 512) × (shown ≤ 1) ⌝ }
+    ensures { λ r. ⌜ r ≡ lateOf shown upcoming begun p ⌝ }
 {
-    if shown != 0 {
-        return Tested::Fails;
-    }
     let high = p.high;
     let known = p.known;
     let last = p.last;
-    Tested::Holds(Pass {
+    Pass {
         late: true,
-        shown: p.shown,
+        broken: p.broken | (shown != 0),
+        shown: p.shown + shown as usize,
         frames: p.frames,
+        roots: p.roots,
         high,
         known,
         upcoming,
         begun,
         last,
-    })
+    }
 }
 
 // The pass with a step more, after the row before it in its frame.
 fn pass_step(words: &[u32], at: RowPlace, prior: RowPlace, p: Pass) -> Tested
     requires { ⌜ Within (now words) (at .0) × Onward (rowsOf (now words)) (at .0) p × StepAfter (rowsOf (now words)) (at .0) (prior .0) ⌝ }
-    ensures { λ r. ⌜ TellsTo (rowsOf (now (words .entry))) (at .0 + 1) (joined (rowsOf (now (words .entry))) (at .0)) r ⌝ }
+    ensures { λ r. ⌜ TellsTo (rowsOf (now (words .entry))) (at .0 + 1) (linked (rowsOf (now (words .entry))) (at .0)) r ⌝ }
 {
     if reads::parent(words, at).0 != reads::parent(words, prior).0 {
         return Tested::Fails;
     }
     let shown = reads::shown(words, at);
     if p.late {
-        return pass_upcoming(shown, p.upcoming, p.begun, p);
+        return Tested::Holds(pass_late(shown, p.upcoming, p.begun, p));
     }
     if reads::is_shown(words, prior) {
-        return pass_upcoming(shown, at, p.frames, p);
+        return Tested::Holds(pass_late(shown, at, p.frames, p));
     }
     let high = p.high;
     let known = p.known;
     let upcoming = p.upcoming;
     Tested::Holds(Pass {
         late: false,
+        broken: p.broken,
         shown: p.shown + shown as usize,
         frames: p.frames,
+        roots: p.roots,
         high,
         known,
         upcoming,
@@ -207,22 +219,33 @@ fn pass_step(words: &[u32], at: RowPlace, prior: RowPlace, p: Pass) -> Tested
     })
 }
 
+// One document, or another.
+fn either(first: bool, a: DocNo, b: DocNo) -> DocNo
+    ensures { λ r. ⌜ r .0 ≡ cond first (a .0) (b .0) ⌝ }
+{
+    if first { a } else { b }
+}
+
 // The pass with the first row of a frame more.
 fn pass_first(words: &[u32], at: RowPlace, p: Pass) -> Tested
     requires { ⌜ Within (now words) (at .0) × Onward (rowsOf (now words)) (at .0) p × (0 < at .0) × (isStep (rowsOf (now words)) (at .0) ≡ false) ⌝ }
-    ensures { λ r. ⌜ TellsTo (rowsOf (now (words .entry))) (at .0 + 1) (joined (rowsOf (now (words .entry))) (at .0)) r ⌝ }
+    ensures { λ r. ⌜ TellsTo (rowsOf (now (words .entry))) (at .0 + 1) (linked (rowsOf (now (words .entry))) (at .0)) r ⌝ }
 {
-    if !has_parent(words, at, p.known) {
+    if !is_headed(words, at, p.known) {
         return Tested::Fails;
     }
     let high = reads::higher(p.high, reads::frame(words, at));
-    let known = reads::parent(words, at);
+    let up = reads::parent(words, at);
+    let root = up.0 == NONE;
+    let known = either(root, p.known, up);
     let upcoming = p.upcoming;
     let last = p.last;
     Tested::Holds(Pass {
         late: p.late,
+        broken: p.broken,
         shown: p.shown + reads::shown(words, at) as usize,
         frames: p.frames + 1,
+        roots: p.roots + root as usize,
         high,
         known,
         upcoming,
@@ -234,7 +257,7 @@ fn pass_first(words: &[u32], at: RowPlace, p: Pass) -> Tested
 // The pass with one row more.
 fn pass_row(words: &[u32], at: RowPlace, p: Pass) -> Tested
     requires { ⌜ Within (now words) (at .0) × Onward (rowsOf (now words)) (at .0) p × (0 < at .0) ⌝ }
-    ensures { λ r. ⌜ TellsTo (rowsOf (now (words .entry))) (at .0 + 1) (joined (rowsOf (now (words .entry))) (at .0)) r ⌝ }
+    ensures { λ r. ⌜ TellsTo (rowsOf (now (words .entry))) (at .0 + 1) (linked (rowsOf (now (words .entry))) (at .0)) r ⌝ }
 {
     match reads::previous_under(words, at, p.high) {
         Found::At(prior) => pass_step(words, at, prior, p),
@@ -251,10 +274,10 @@ fn is_root(words: &[u32], top: FrameNo) -> bool
     is_bounded(words, at, top) & (reads::parent(words, at).0 == NONE)
 }
 
-// S2 to S7: whether every row keeps the rules, as many are shown as there are frames, and the documents fit.
+// S2 to S6: whether every row keeps the rules, as many are shown as there are frames, and the documents fit.
 fn rows_pass(words: &[u32], n: usize, top: FrameNo, next: DocNo) -> Tested
     requires { ⌜ Within (now words) 0 × (n ≡ length (rowsOf (now words))) ⌝ }
-    ensures { λ r. ⌜ Tells (rowsOf (now (words .entry))) (quick? (rowsOf (now (words .entry))) (next .0) (top .0)) r ⌝ }
+    ensures { λ r. ⌜ Tells (rowsOf (now (words .entry))) (kept? (rowsOf (now (words .entry))) (next .0) (top .0)) r ⌝ }
 {
     if !is_root(words, top) {
         return Tested::Fails;
@@ -286,17 +309,96 @@ fn rows_pass(words: &[u32], n: usize, top: FrameNo, next: DocNo) -> Tested
     }
 }
 
+// Whether a row is an upcoming step of a window, the first of its frame. The window is asked last: it takes a climb.
+pub fn comes_in(words: &[u32], at: RowPlace, root: FrameNo) -> bool
+    requires { ⌜ Within (now words) (at .0) ⌝ }
+    ensures { λ r. ⌜ r ≡ comesIn (root .0) (rowsOf (now (words .entry))) (at .0) ⌝ }
+{
+    let Found::At(prior) = reads::latest_of(words, at, reads::frame(words, at)) else {
+        return false;
+    };
+    if !reads::is_shown(words, prior) {
+        return false;
+    }
+    reads::root_of(words, at).0 == root.0
+}
+
+// Whether such a step stands up to a row, from another on.
+fn comes_upto(words: &[u32], from: RowPlace, at: RowPlace, root: FrameNo) -> bool
+    requires { ⌜ Within (now words) (at .0) × (someBelow (from .0) (comes (rowsOf (now words))) ≡ false) ⌝ }
+    ensures { λ r. ⌜ r ≡ someBelow (at .0 + 1) (comesIn (root .0) (rowsOf (now (words .entry)))) ⌝ }
+{
+    let mut j = from.0;
+    while j <= at.0 {
+        if comes_in(words, RowPlace(j), root) {
+            return true;
+        }
+        j += 1;
+    }
+    false
+}
+
+// Whether a row is no shown step, or no upcoming one of its window stands before it; none does before `from`.
+fn is_calm(words: &[u32], from: RowPlace, at: RowPlace) -> bool
+    requires { ⌜ Within (now words) (at .0) × (someBelow (from .0) (comes (rowsOf (now words))) ≡ false) ⌝ }
+    ensures { λ r. ⌜ r ≡ calm (rowsOf (now (words .entry))) (at .0) ⌝ }
+{
+    if !reads::is_shown(words, at) {
+        return true;
+    }
+    match reads::latest_of(words, at, reads::frame(words, at)) {
+        Found::At(_) => !comes_upto(words, from, at, reads::root_of(words, at)),
+        Found::Nothing => true,
+    }
+}
+
+// S7, where no step is upcoming before `from`.
+fn windows_calm(words: &[u32], from: RowPlace, n: usize) -> bool
+    requires { ⌜ Within (now words) 0 × (n ≡ length (rowsOf (now words))) × (someBelow (from .0) (comes (rowsOf (now words))) ≡ false) ⌝ }
+    ensures { λ r. ⌜ r ≡ allBelow (length (rowsOf (now (words .entry)))) (calm (rowsOf (now (words .entry)))) ⌝ }
+{
+    let mut i = from.0;
+    while i < n {
+        if !is_calm(words, from, RowPlace(i)) {
+            return false;
+        }
+        i += 1;
+    }
+    true
+}
+
+// S7, by what the pass knows of all rows: one window alone has no upcoming step before a shown one.
+fn is_in_order(words: &[u32], n: usize, p: Pass) -> bool
+    requires { ⌜ Within (now words) 0 × (n ≡ length (rowsOf (now words))) × Kept (now words) × Passed (rowsOf (now words)) n p ⌝ }
+    ensures { λ r. ⌜ r ≡ allBelow (length (rowsOf (now (words .entry)))) (calm (rowsOf (now (words .entry)))) ⌝ }
+{
+    if !p.broken {
+        return true;
+    }
+    if p.roots == 1 {
+        return false;
+    }
+    windows_calm(words, p.upcoming, n)
+}
+
 // S2 to S7.
 fn rows_sound(words: &[u32], n: usize) -> Tested
     requires { ⌜ Within (now words) 0 × (n ≡ length (rowsOf (now words))) ⌝ }
     ensures { λ r. ⌜ Tells (rowsOf (now (words .entry))) (quick? (rowsOf (now (words .entry))) (tableOf (now (words .entry)) .nextDoc) (tableOf (now (words .entry)) .nextFrame)) r ⌝ }
 {
-    rows_pass(
+    let Tested::Holds(p) = rows_pass(
         words,
         n,
         rows::next_frame_number(words),
         rows::next_document(words),
-    )
+    ) else {
+        return Tested::Fails;
+    };
+    if is_in_order(words, n, p) {
+        Tested::Holds(p)
+    } else {
+        Tested::Fails
+    }
 }
 
 // S8.
@@ -388,9 +490,9 @@ fn if_late(late: bool, a: usize, b: usize) -> usize
     if late { a } else { b }
 }
 
-// Where the window of a sound record stands, by what the pass knows of all its rows.
+// Where the one window of a sound record stands, by what the pass knows of all its rows.
 fn stand_of(words: &[u32], p: Pass) -> Stand
-    requires { ⌜ (sound? (now words) ≡ true) × Passed (rowsOf (now words)) (length (rowsOf (now words))) p ⌝ }
+    requires { ⌜ (sound? (now words) ≡ true) × (alone? (rowsOf (now words)) ≡ true) × Passed (rowsOf (now words)) (length (rowsOf (now words))) p ⌝ }
     ensures { λ r. ⌜ r ≡ standOf (rowsOf (now (words .entry))) ⌝ }
 {
     let n = rows::row_count(words);
@@ -406,13 +508,14 @@ fn stand_of(words: &[u32], p: Pass) -> Stand
     }
 }
 
-// Refusals 1 and 2, or where the window stands.
+// Refusals 1 and 2, or where the one window stands, or that there are several.
 pub enum Survey {
     Stands(Stand),
+    Several,
     No(Refusal),
 }
 
-// Refusals 1 and 2, or where the window stands, by the one pass of the test.
+// Refusals 1 and 2, or where the window stands or that there are several, by the one pass of the test.
 pub fn locate(words: &[u32]) -> Survey
     ensures { λ r. ⌜ r ≡ surveyOf (now (words .entry)) ⌝ }
 {
@@ -421,6 +524,12 @@ pub fn locate(words: &[u32]) -> Survey
     }
     match test(words) {
         Tested::Fails => Survey::No(Refusal::Unsound),
-        Tested::Holds(p) => Survey::Stands(stand_of(words, p)),
+        Tested::Holds(p) => {
+            if p.roots == 1 {
+                Survey::Stands(stand_of(words, p))
+            } else {
+                Survey::Several
+            }
+        }
     }
 }

@@ -9,7 +9,7 @@ use lib.Seq.{take-all}
 use Rattle.laws.proofs.Tests.{clash, by-lt}
 use Rattle.laws.specs.Writes.{Wrote}
 use Rattle.lines.specs.Reply.{Said, answerText}
-use Rattle.turns.specs.Turns.{Turned, turned}
+use Rattle.turns.specs.Turns.{turned}
 use Rattle.texts.specs.Feeds.{Answered, Settled, LastAnswered, Finishes}
 use Rattle.texts.specs.Texts.{unended}
 use Rattle.texts.specs.declared.Cut.{Cut}
@@ -24,7 +24,7 @@ take-least line kept n e =
 
 -- What the turn left, and the text that was written of what it said.
 pub answered : (words changes line out : List ℕ) (used : ℕ) (said : Said) (words' changes' out' : List ℕ) (r : ℕ) →
-    turned words changes line ≡ record { said = said; words = words'; changes = changes' } → Wrote out used (answerText said) out' r → r ≤ used + 66 →
+    turned words changes line ≡ record { said = said; words = words'; changes = changes' } → Wrote out used (answerText said) out' r → r ≤ used + 67 →
     Answered words changes line out used words' changes' out' r
 answered words changes line out used said words' changes' out' r e w short =
     record {
@@ -48,13 +48,13 @@ settled-ended c words changes line out used n words' changes' out' r t e a =
 
 module _ (words changes line : List ℕ) (kept : ℕ) (out : List ℕ) (n : ℕ) (least : n ≡ min kept (length line)) where
   -- No line has begun.
-  pub finished-none : n ≡ 0 → 66 ≤ length out → Finishes words changes line kept out (Printed 0) words changes out
+  pub finished-none : n ≡ 0 → 67 ≤ length out → Finishes words changes line kept out (Printed 0) words changes out
   finished-none z room =
       let e : take kept line ≡ [] = sym (take-least line kept n least) ∙ ap (λ k. take k line) z in
       (subst (λ l. LastAnswered (unended l) words changes out words changes out 0) (sym e) (refl, refl, refl, refl), room)
 
   -- A line has begun, and is answered.
-  pub finished-last : (n ≡ 0 → ⊥) → 66 ≤ length out → (words' changes' out' : List ℕ) (r : ℕ) → Answered words changes (take n line) out 0 words' changes' out' r →
+  pub finished-last : (n ≡ 0 → ⊥) → 67 ≤ length out → (words' changes' out' : List ℕ) (r : ℕ) → Answered words changes (take n line) out 0 words' changes' out' r →
       Finishes words changes line kept out (Printed r) words' changes' out'
   finished-last some room words' changes' out' r a =
       let e = take-least line kept n least in

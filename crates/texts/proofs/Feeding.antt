@@ -1,7 +1,7 @@
 -- Feeding a part of a text, line by line. Assumes nothing.
-use Prim.Native.Nat.{ℕ, _+_, _-_, _*_, _≤_, _<_}
-use mathlib.Core.Bool.{Bool, true, false, _&&_, and-eq-true-iff}
-use mathlib.Core.List.{List, [], _∷_, _++_, append-nil}
+use Prim.Native.Nat.{ℕ, _+_, _-_, _≤_, _<_}
+use mathlib.Core.Bool.{true, false, _&&_, and-eq-true-iff}
+use mathlib.Core.List.{List, [], _++_, append-nil}
 use mathlib.Core.Logic.{_⊎_, inl, inr, ⊎-elim}
 use mathlib.Core.Path.{_≡_, refl, sym, ap, _∙_, subst}
 use native.Mathlib.Omega.{arith}
@@ -15,12 +15,12 @@ use Rattle.laws.proofs.Tests.{test, by-lt, clash}
 use Rattle.laws.proofs.Writes.{length-put}
 use Rattle.lines.specs.Reply.{answerText}
 use Rattle.turns.specs.Turns.{turned}
-use Rattle.texts.specs.Cuts.{lineIn, ends?, grown, Cuts}
-use Rattle.texts.specs.Feeds.{Reader, onward, readBy, printedBy, Alike, Same, reader, Answered, Settled, Reads, Feeds}
+use Rattle.texts.specs.Cuts.{lineIn, ends?, Cuts}
+use Rattle.texts.specs.Feeds.{Reader, readBy, printedBy, Alike, Same, reader, Answered, Settled, Reads, Feeds}
 use Rattle.texts.specs.declared.Cut.{Cut}
 use Rattle.texts.specs.declared.Place.{Place}
 use Rattle.texts.specs.declared.Fed.{Fed}
-use Rattle.texts.proofs.Lines.{read-append, printed-append, grownBy, ended-read, on-read}
+use Rattle.texts.proofs.Lines.{read-append, printed-append, ended-read, on-read}
 use Rattle.texts.proofs.Alike.{alike-turned, same-trans, same-self, same-read, same-printed, kept-alike}
 
 -- WHAT IS WRITTEN
@@ -93,7 +93,7 @@ module _ (s : Reader) (text : List ℕ) (at : ℕ) (words changes line : List �
       }
 
   -- The line ends and is answered.
-  pub reads-answered : ends? rest ≡ true → (words' changes' out' : List ℕ) (used' : ℕ) → Answered words changes (take (c .kept) line') out used words' changes' out' used' → used + 66 ≤ length out →
+  pub reads-answered : ends? rest ≡ true → (words' changes' out' : List ℕ) (used' : ℕ) → Answered words changes (take (c .kept) line') out used words' changes' out' used' → used + 67 ≤ length out →
       Reads s text (c .at) (reader words' changes' line' 0) out₀ used' out'
   reads-answered t words' changes' out' used' a room =
       let o = ended-read rest here t in
@@ -123,7 +123,7 @@ module _ (s : Reader) (text : List ℕ) (at : ℕ) (words changes line : List �
       }
 
   -- Either, by what became of the line that was read.
-  pub reads-settled : (words' changes' out' : List ℕ) (p : Place) → Settled c words changes line' out used words' changes' out' p → used + 66 ≤ length out →
+  pub reads-settled : (words' changes' out' : List ℕ) (p : Place) → Settled c words changes line' out used words' changes' out' p → used + 67 ≤ length out →
       Reads s text (c .at) (reader words' changes' line' (p .kept)) out₀ (p .used) out' × (length out' ≡ length out₀)
   reads-settled words' changes' out' p h room =
       let e = ap (λ c. c .ended) (k .cut-is) in
@@ -148,21 +148,21 @@ cut-forward text at line len c line' k l =
 -- THE TEST OF THE LOOP
 
 -- There is more to read and room for an answer, and where not, one is why.
-pub goes-in : (n at m l u : ℕ) → leb 65 n && ltb at m && leb 66 (l - u) ≡ true → (65 ≤ n) × (at < m) × (u + 66 ≤ l)
+pub goes-in : (n at m l u : ℕ) → leb 65 n && ltb at m && leb 67 (l - u) ≡ true → (65 ≤ n) × (at < m) × (u + 67 ≤ l)
 goes-in n at m l u h =
     let a = simp and-eq-true-iff at h in
-    let r = leb-true 66 (l - u) (a .1) in (leb-true 65 n (a .0 .0), ltb-true at m (a .0 .1), omega arith)
+    let r = leb-true 67 (l - u) (a .1) in (leb-true 65 n (a .0 .0), ltb-true at m (a .0 .1), omega arith)
 
-pub goes-out : (n at m l l₀ u : ℕ) → leb 65 n && ltb at m && leb 66 (l - u) ≡ false → at ≤ m → u ≤ l₀ → l ≡ l₀ → 65 ≤ n → (at ≡ m) ⊎ (l₀ < u + 66)
+pub goes-out : (n at m l l₀ u : ℕ) → leb 65 n && ltb at m && leb 67 (l - u) ≡ false → at ≤ m → u ≤ l₀ → l ≡ l₀ → 65 ≤ n → (at ≡ m) ⊎ (l₀ < u + 67)
 goes-out n at m l l₀ u h a b s wide =
     by-lt at m
-    (λ t. by-lt l₀ (u + 66) (λ r. inr r) (λ r.
-    let e : leb 65 n && ltb at m && leb 66 (l - u) ≡ true = simp and-eq-true-iff ((le-leb 65 n wide, lt-ltb at m t), le-leb 66 (l - u) (omega arith)) in
+    (λ t. by-lt l₀ (u + 67) (λ r. inr r) (λ r.
+    let e : leb 65 n && ltb at m && leb 67 (l - u) ≡ true = simp and-eq-true-iff ((le-leb 65 n wide, lt-ltb at m t), le-leb 67 (l - u) (omega arith)) in
     absurd (clash e h)))
     (λ t. inl (omega arith))
 
 -- Of a text that is not empty a byte at least is taken, where out has room for an answer.
 pub fed-forward : (text words changes line : List ℕ) (kept : ℕ) (out : List ℕ) (f : Fed) (words' changes' line' out' : List ℕ) → Feeds text words changes line kept out f words' changes' line' out' →
-    65 ≤ length line → 66 ≤ length out → 0 < length text → 0 < f .taken
+    65 ≤ length line → 67 ≤ length out → 0 < length text → 0 < f .taken
 fed-forward text words changes line kept out f words' changes' line' out' h wide room some =
     ⊎-elim (λ e. omega arith) (λ l. omega (arith, h .reads .bounded)) (h .goes-on wide)

@@ -66,7 +66,7 @@ pub record Answered (words changes line out : List ℕ) (used : ℕ) (words' cha
   pub words-are : words' ≡ turned words changes line .words
   pub changes-are : changes' ≡ turned words changes line .changes
   pub text-is : Wrote out used (answerText (turned words changes line .said)) out' r
-  pub short : r ≤ used + 66
+  pub short : r ≤ used + 67
 
 -- A line that was read is answered where it has ended, and none is begun then; else nothing changes.
 pub record Settled (c : Cut) (words changes line out : List ℕ) (used : ℕ) (words' changes' out' : List ℕ) (p : Place) : Type 0 where
@@ -80,13 +80,13 @@ pub record Reads (s : Reader) (text : List ℕ) (taken : ℕ) (r : Reader) (out 
   pub prints : take used out' ≡ printedBy s (take taken text)
   pub fits : used ≤ length out
   pub kept : drop used out' ≡ drop used out
-  -- A byte that is read prints at most 66.
-  pub bounded : used ≤ 66 * taken
+  -- A byte that is read prints at most 67.
+  pub bounded : used ≤ 67 * taken
 
 -- A part of a text was fed: its first bytes were read, and all of them, unless out has no room for another answer. A line's buffer has at least 65 bytes.
 pub record Feeds (text words changes line : List ℕ) (kept : ℕ) (out : List ℕ) (f : Fed) (words' changes' line' out' : List ℕ) : Type 0 where
   pub reads : Reads (reader words changes line kept) text (f .taken) (reader words' changes' line' (f .kept)) out (f .used) out'
-  pub goes-on : 65 ≤ length line → (f .taken ≡ length text) ⊎ (length out < f .used + 66)
+  pub goes-on : 65 ≤ length line → (f .taken ≡ length text) ⊎ (length out < f .used + 67)
 
 -- The last lines of a text, one or none, were answered.
 abbrev pub LastAnswered : List (List ℕ) → List ℕ → List ℕ → List ℕ → List ℕ → List ℕ → List ℕ → ℕ → Type 0
@@ -95,8 +95,8 @@ LastAnswered (line ∷ lines) words changes out words' changes' out' n = Answere
 
 -- A text ended: the line that lacks its newline was answered, if there is one; nothing is changed where out is too short for an answer.
 abbrev pub Finishes : List ℕ → List ℕ → List ℕ → ℕ → List ℕ → Finished → List ℕ → List ℕ → List ℕ → Type 0
-Finishes words changes line kept out (Printed n) words' changes' out' = LastAnswered (unended (take kept line)) words changes out words' changes' out' n × (66 ≤ length out)
-Finishes words changes line kept out Short words' changes' out' = (words' ≡ words) × (changes' ≡ changes) × (out' ≡ out) × (length out < 66)
+Finishes words changes line kept out (Printed n) words' changes' out' = LastAnswered (unended (take kept line)) words changes out words' changes' out' n × (67 ≤ length out)
+Finishes words changes line kept out Short words' changes' out' = (words' ≡ words) × (changes' ≡ changes) × (out' ≡ out) × (length out < 67)
 
 -- Parts of a text read one after the other: the text so far, what it printed, and where the reader stands then.
 pub data Session (s : Reader) : List ℕ → List ℕ → Reader → Type 0 where

@@ -1,6 +1,8 @@
 // A script's whole text, read in parts: where its lines end, and what is printed for them.
 //
 // `read_line` ends a line, whatever is done with it then; `feed` and `finish` answer it as a line of a script.
+use base::DocNo;
+use base::FrameNo;
 use base::Refusal;
 use lines::Reply;
 ghost use mathlib.Core.Path.{_≡_};
@@ -57,29 +59,38 @@ pub fn read_line(text: &[u8], from: usize, line: &mut [u8], kept: usize) -> Cut
 
 // Puts the answer to an accepted call into out, and says where it ends.
 fn put_ok(out: &mut [u8], at: usize, v: usize, p: usize, s: usize) -> usize
-    requires { ⌜ at + 66 ≤ length (now out) ⌝ }
-    ensures { λ r. ⌜ Wrote (now (out .entry)) at (answerText (Said.ok v p s)) (now (out .exit)) r × (r ≤ at + 66) ⌝ }
+    requires { ⌜ at + 67 ≤ length (now out) ⌝ }
+    ensures { λ r. ⌜ Wrote (now (out .entry)) at (answerText (Said.ok v p s)) (now (out .exit)) r × (r ≤ at + 67) ⌝ }
 {
     lines::put_answer(out, at, Reply::Ok(v, p, s))
 }
 
+// Puts the answer to `tab` into out, and says where it ends.
+fn put_tab(out: &mut [u8], at: usize, d: DocNo, f: FrameNo, p: usize, s: usize) -> usize
+    requires { ⌜ at + 67 ≤ length (now out) ⌝ }
+    ensures { λ r. ⌜ Wrote (now (out .entry)) at (answerText (Said.tabbed (d .0) (f .0) p s)) (now (out .exit)) r × (r ≤ at + 67) ⌝ }
+{
+    lines::put_answer(out, at, Reply::Tab(d, f, p, s))
+}
+
 // Puts the answer to a refused call into out, and says where it ends.
 fn put_no(out: &mut [u8], at: usize, why: Refusal, p: usize, s: usize) -> usize
-    requires { ⌜ at + 66 ≤ length (now out) ⌝ }
-    ensures { λ r. ⌜ Wrote (now (out .entry)) at (answerText (Said.denied (numberOf why) (carriedBy why) p s)) (now (out .exit)) r × (r ≤ at + 66) ⌝ }
+    requires { ⌜ at + 67 ≤ length (now out) ⌝ }
+    ensures { λ r. ⌜ Wrote (now (out .entry)) at (answerText (Said.denied (numberOf why) (carriedBy why) p s)) (now (out .exit)) r × (r ≤ at + 67) ⌝ }
 {
     // What the refusal carries is a number of 32 bits, so that the answer is no longer than others.
     base::refusal_carries(why);
     lines::put_answer(out, at, Reply::No(why, p, s))
 }
 
-// Puts an answer into out, where 66 bytes are left, which are room for any, and says where it ends.
+// Puts an answer into out, where 67 bytes are left, which are room for any, and says where it ends.
 fn put_reply(out: &mut [u8], at: usize, reply: Reply) -> usize
-    requires { ⌜ at + 66 ≤ length (now out) ⌝ }
-    ensures { λ r. ⌜ Wrote (now (out .entry)) at (answerText (replyIs reply)) (now (out .exit)) r × (r ≤ at + 66) ⌝ }
+    requires { ⌜ at + 67 ≤ length (now out) ⌝ }
+    ensures { λ r. ⌜ Wrote (now (out .entry)) at (answerText (replyIs reply)) (now (out .exit)) r × (r ≤ at + 67) ⌝ }
 {
     match reply {
         Reply::Ok(v, p, s) => put_ok(out, at, v, p, s),
+        Reply::Tab(d, f, p, s) => put_tab(out, at, d, f, p, s),
         Reply::No(why, p, s) => put_no(out, at, why, p, s),
         Reply::Bad => lines::put_answer(out, at, Reply::Bad),
     }
@@ -93,7 +104,7 @@ fn answer_line(
     out: &mut [u8],
     used: usize,
 ) -> usize
-    requires { ⌜ used + 66 ≤ length (now out) ⌝ }
+    requires { ⌜ used + 67 ≤ length (now out) ⌝ }
     ensures { λ r. ⌜ Answered (now (words .entry)) (now (changes .entry)) (now (line .entry)) (now (out .entry)) used (now (words .exit)) (now (changes .exit)) (now (out .exit)) r ⌝ }
 {
     let reply = turns::turn(words, changes, line);
@@ -122,7 +133,7 @@ fn settle(
     out: &mut [u8],
     used: usize,
 ) -> Place
-    requires { ⌜ used + 66 ≤ length (now out) ⌝ }
+    requires { ⌜ used + 67 ≤ length (now out) ⌝ }
     ensures { λ r. ⌜ Settled c (now (words .entry)) (now (changes .entry)) (now (line .entry)) (now (out .entry)) used (now (words .exit)) (now (changes .exit)) (now (out .exit)) r ⌝ }
 {
     if !c.ended {
@@ -155,7 +166,7 @@ pub fn feed(
     let mut len = kept;
     let mut used = 0;
     let wide = 65 <= line.len();
-    while wide & (at < text.len()) & (66 <= out.len() - used) {
+    while wide & (at < text.len()) & (67 <= out.len() - used) {
         let c = read_line(text, at, line, len);
         let p = settle(c, line, words, changes, out, used);
         at = c.at;
@@ -185,7 +196,7 @@ pub fn finish(
 ) -> Finished
     ensures { λ r. ⌜ Finishes (now (words .entry)) (now (changes .entry)) (now (line .entry)) kept (now (out .entry)) r (now (words .exit)) (now (changes .exit)) (now (out .exit)) ⌝ }
 {
-    if out.len() < 66 {
+    if out.len() < 67 {
         return Finished::Short;
     }
     let n = least(kept, line.len());

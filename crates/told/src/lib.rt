@@ -7,10 +7,10 @@ ghost use mathlib.Core.Bool.{false};
 ghost use mathlib.Core.List.{[], _∷_};
 ghost use Prim.Native.Nat.{_+_, _*_, _<_, _≤_};
 ghost use lib.Dec.{eqb};
-ghost use lib.ListN.{length, take};
+ghost use lib.ListN.{length};
 ghost use Rattle.rules.specs.Below.{sum};
 ghost use Rattle.rules.specs.Rows.{flag};
-ghost use Rattle.rules.specs.Words.{tableOf, put};
+ghost use Rattle.rules.specs.Words.{tableOf};
 ghost use Rattle.rules.specs.Sound.{Sound};
 ghost use Rattle.rules.specs.Saved.{numberAt, documentsIn};
 ghost use Rattle.told.specs.Answers.{loadingIs};
@@ -153,18 +153,6 @@ pub fn is_higher(bytes: &[u8], j: usize, f: FrameNo) -> bool
     number_at(bytes, 16 * j - 4) < f.0
 }
 
-// Copies the words before a place.
-fn copy_words(words: &mut [u32], from: &[u32], end: usize)
-    requires { ⌜ (end ≤ length (now words)) × (end ≤ length (now from)) ⌝ }
-    ensures { λ _. ⌜ now (words .exit) ≡ put (now (words .entry)) 0 (take end (now (from .entry))) ⌝ }
-{
-    let mut k = 0;
-    while k < end {
-        words[k] = from[k];
-        k += 1;
-    }
-}
-
 // Fills words from a sound record with room for 512 rows, if they have room for its rows.
 pub fn fill(words: &mut [u32], from: &[u32]) -> Loading
     requires { ⌜ (7 ≤ length (now words)) × (length (now from) ≡ 2051) × Sound (now from) ⌝ }
@@ -175,6 +163,6 @@ pub fn fill(words: &mut [u32], from: &[u32]) -> Loading
     if c < n {
         return Loading::Refused(Refusal::Full);
     }
-    copy_words(words, from, 3 + 4 * c);
+    writes::copy(words, from, 3 + 4 * c);
     Loading::Rows(n)
 }

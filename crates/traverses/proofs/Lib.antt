@@ -3,3 +3,4 @@ pub mod Texts
 pub mod Goals
 pub mod Flagging
 pub mod Ways
+pub mod Among

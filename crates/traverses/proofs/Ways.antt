@@ -1,28 +1,33 @@
 -- What Traverse answers, by the ways that it goes. Assumes nothing.
 use Prim.Native.Nat.{ℕ, _*_, _/_, _≤_, _<_}
-use mathlib.Core.Bool.{false, So}
+use mathlib.Core.Bool.{Bool, false, So, cond}
 use mathlib.Core.List.{List, [], _∷_, flatMap}
 use mathlib.Core.Logic.{inl, inr}
-use mathlib.Core.Path.{_≡_, refl, sym, ap, subst, subst₂, _∙_, fun-ext}
+use mathlib.Core.Path.{_≡_, refl, sym, ap, ap₂, subst, subst₂, _∙_, fun-ext}
 use native.Mathlib.Omega.{arith}
 use lib.Dec.{eqb, ltb}
 use lib.IntN.{ℤ, pos, negsuc, _+ℤ_}
 use lib.ListN.{length, length-append}
 use borrow.Author.Tests.{lt-ltb, le-ltb, ltb-false}
 use Rattle.base.specs.declared.Refusal.{Refusal}
-use Rattle.base.specs.declared.Refusal.the-variants.{ShortBuffer, Beyond}
+use Rattle.base.specs.declared.Refusal.the-variants.{ShortBuffer, Beyond, NoRoot}
 use Rattle.rules.specs.Below.{someBelow, count, rising}
-use Rattle.rules.specs.Rows.{Row, Table, docAt, frameAt, isFrame}
+use Rattle.rules.specs.Rows.{Row, Table, none, docAt, frameAt, isFrame}
 use Rattle.rules.specs.Steps.{step, position, steps}
-use Rattle.rules.specs.Moves.{walked, frames, shownDoc, changeRow, changes}
+use Rattle.rules.specs.Windows.{isRoot}
+use Rattle.rules.specs.Moves.{walked, traversed, frames, shownDoc, changeRow, changes}
 use Rattle.rules.specs.Words.{put, tableOf, rowsOf, written}
-use Rattle.rules.specs.Calls.{Call, Outcome, outside, refusals, accepted, outcome, Given, NoneGiven}
+use Rattle.rules.specs.Calls.{Call, Answer, Outcome, outside, beyond, tooShort, windowIn, refusals, accepted, ladder, outcome, Given}
 use Rattle.laws.proofs.Tests.{test}
 use Rattle.laws.proofs.Central.{flagsAt, central, at-length, at-doc, at-frame, at-at}
 use Rattle.laws.proofs.Travel.{walked-at}
 use Rattle.laws.proofs.Words.{length-written, table-written}
 use Rattle.laws.proofs.Writes.{put-none}
-use Rattle.laws.proofs.Calls.{outcome-accepted, outcome-refused}
+use Rattle.laws.proofs.Calls.{outcome-refused}
+use Rattle.laws.proofs.Tree.{OneRoot}
+use Rattle.windows.proofs.Window.{WideRows, wide-rows}
+use Rattle.windows.proofs.Only.{only-rows, only-traversed}
+use Rattle.sound.specs.Check.{Examined}
 use Rattle.sound.specs.Survey.{surveyOf, Located}
 use Rattle.sound.specs.declared.Stand.{Stand}
 use Rattle.sound.specs.declared.Survey.{Survey}
@@ -38,7 +43,7 @@ use Rattle.traverses.specs.Answers.{traversedIs, tripText, Arrived, Fore
 use Rattle.traverses.specs.Goals.{goalOf}
 use Rattle.traverses.specs.Places.{stepsTo, PlaceOf, NextBetween}
 use Rattle.traverses.specs.Texts.{docFrom, changeText, textBelow, placesText, movedTo, Ready, Start}
-use Rattle.traverses.proofs.Places.{stand-position, stand-steps, next-same}
+use Rattle.traverses.proofs.Places.{stand-position, stand-steps, stand-rows, next-same}
 use Rattle.traverses.proofs.Texts.{begins-next, begins-none, no-text}
 
 -- READY
@@ -47,17 +52,17 @@ module _ (words : List ℕ) (s : Stand) (h : Located words s) (a b to : ℕ) (fi
   pub ready-of : Ready words a b
   ready-of =
       record {
-        long = examined-long words (h .0);
-        fits = examined-fits words (h .0);
-        apart = examined-sound words (h .0) .table .s2 .distinct;
+        long = examined-long words (h .examined);
+        fits = examined-fits words (h .examined);
+        apart = examined-sound words (h .examined) .table .s2 .distinct;
         first = first .upto;
         second = second .upto;
       }
 
-  pub start-of : Start words a b
-  start-of =
-      let t = examined-sound words (h .0) .table in
-      record { examined = h .0; ready = ready-of; flags = ap (λ m. flagsAt m (rowsOf words)) (first .counted ∙ stand-position words s h) ∙ central (rowsOf words) (t .s6) (t .s7) }
+  pub start-of : tableOf words .nextDoc ≤ none → Start words a b
+  start-of word =
+      let t = stand-rows words s h word in
+      record { examined = h .examined; ready = ready-of; flags = ap (λ m. flagsAt m (rowsOf words)) (first .counted ∙ stand-position words s h) ∙ central (rowsOf words) (t .s6) (t .s7) }
 
 -- THE CHANGE ROWS
 
@@ -159,12 +164,13 @@ module _ (old : List ℕ) (a b : ℕ) (start : Start old a b) (new : List ℕ) (
 -- THE ANSWER
 
 -- A refusal of whatever is lent.
-stays : (words : List ℕ) (δ : ℤ) (room : ℕ) (r : Refusal) →
-    ((lent : List ℕ) → length lent / 4 ≡ room → outcome (Call.Traverse words δ lent) ≡ record { answer = traversedIs (Refused r); lent = words ∷ lent ∷ [] }) → Shifts words δ room (Stayed r) words
-stays words δ room r h =
+stays : (words : List ℕ) (δ : ℤ) (room : ℕ) (why : Refusal) →
+    ((r : ℕ) → So (isRoot (rowsOf words) r) → (lent : List ℕ) → length lent / 4 ≡ room → outcome (Call.Traverse words r δ lent) ≡ record { answer = traversedIs (Refused why); lent = words ∷ lent ∷ [] }) →
+    Shifts words δ room (Stayed why) words
+stays words δ room why h =
     let e = no-text (tableOf words) 0 in
     record {
-      outcome-is = λ lent l. h lent l ∙ ap (λ z. record { answer = traversedIs (Refused r); lent = words ∷ z ∷ [] }) (put-none lent 0 ∙ ap (put lent 0) (sym e));
+      outcome-is = λ r root lent l. h r root lent l ∙ ap (λ z. record { answer = traversedIs (Refused why); lent = words ∷ z ∷ [] }) (put-none lent 0 ∙ ap (put lent 0) (sym e));
       sized = ap length (sym e);
       begins = begins-none (tableOf words) 0 0;
       foremost = tt;
@@ -172,52 +178,82 @@ stays words δ room r h =
       arrived = tt;
     }
 
-module _ (words : List ℕ) (a b : ℕ) (start : Start words a b) (from to : ℕ) (here : from ≡ position (rowsOf words)) (there : stepsTo (rowsOf words) b ≡ to)
-    (reached : to ≤ steps (rowsOf words)) where
-  within : (δ : ℤ) → pos from +ℤ δ ≡ pos to → outside (steps (rowsOf words)) (pos (position (rowsOf words)) +ℤ δ) ≡ false
-  within δ e = ap (λ p. outside (steps (rowsOf words)) (pos p +ℤ δ)) (sym here) ∙ ap (outside (steps (rowsOf words))) e ∙ le-ltb (steps (rowsOf words)) to reached
+-- In a record of one window that of its root frame is the table, and so is what a traversal makes of it.
+module _ (words : List ℕ) (s : Stand) (h : Located words s) (word : tableOf words .nextDoc ≤ none) (r : ℕ) (root : So (isRoot (rowsOf words) r)) where
+  one-root : OneRoot (rowsOf words)
+  one-root = stand-rows words s h word .root
 
-  lands : (δ : ℤ) → pos from +ℤ δ ≡ pos to → walked δ (rowsOf words) ≡ movedTo (tableOf words) b .rows
+  wide : WideRows (rowsOf words) (tableOf words .nextDoc) (tableOf words .nextFrame)
+  wide = wide-rows (examined-sound words (h .examined) .table) word
+
+  only-table : windowIn words r ≡ tableOf words
+  only-table = ap (λ l. record { rows = l; nextDoc = tableOf words .nextDoc; nextFrame = tableOf words .nextFrame }) (only-rows (tableOf words) wide one-root r root)
+
+  only-walked : (δ : ℤ) → beyond (rowsOf words) δ ≡ false → traversed (tableOf words) r δ ≡ record { rows = walked δ (rowsOf words); nextDoc = tableOf words .nextDoc; nextFrame = tableOf words .nextFrame }
+  only-walked = only-traversed (tableOf words) wide one-root r root
+
+  -- The first lines of the table do not apply.
+  only-past : (δ : ℤ) (lent : List ℕ) (b c : Bool) → beyond (rowsOf words) δ ≡ b → tooShort lent (changes (tableOf words) δ) ≡ c →
+      outcome (Call.Traverse words r δ lent) ≡ cond b (record { answer = Answer.refuses 6 []; lent = words ∷ lent ∷ [] }) (cond c (record { answer = Answer.refuses 9 []; lent = words ∷ lent ∷ [] }) (accepted (Call.Traverse words r δ lent)))
+  unfolding outcome refusals ladder
+  only-past δ lent b c e f =
+      let x = h .examined in
+      let y = ap (λ t. beyond (t .rows) δ) only-table ∙ e in
+      let z = ap (λ t. tooShort lent (changes t δ)) only-table ∙ f in rw (x .long, x .passes, root, y, z) refl
+
+module _ (words : List ℕ) (s : Stand) (h : Located words s) (word : tableOf words .nextDoc ≤ none) (a b : ℕ) (start : Start words a b) (to : ℕ) (there : stepsTo (rowsOf words) b ≡ to)
+    (reached : to ≤ steps (rowsOf words)) where
+  within : (δ : ℤ) → pos (s .position) +ℤ δ ≡ pos to → beyond (rowsOf words) δ ≡ false
+  within δ e =
+      ap (λ p. outside (steps (rowsOf words)) (pos p +ℤ δ)) (sym (stand-position words s h)) ∙ ap (outside (steps (rowsOf words))) e ∙ le-ltb (steps (rowsOf words)) to reached
+
+  lands : (δ : ℤ) → pos (s .position) +ℤ δ ≡ pos to → walked δ (rowsOf words) ≡ movedTo (tableOf words) b .rows
   lands δ e =
-      let s = examined-sound words (start .examined) .table in
-      let l = walked-at (rowsOf words) (s .s6) (s .s7) δ (within δ e) in
-      let z : pos (l .to) ≡ pos to = sym (l .sum) ∙ ap (λ p. pos p +ℤ δ) (sym here) ∙ e in
+      let t = stand-rows words s h word in
+      let l = walked-at (rowsOf words) (t .s6) (t .s7) δ (within δ e) in
+      let z : pos (l .to) ≡ pos to = sym (l .sum) ∙ ap (λ p. pos p +ℤ δ) (sym (stand-position words s h)) ∙ e in
       let y : l .to ≡ stepsTo (rowsOf words) b = (let x : l .to ≡ to = cc in x ∙ sym there) in
       l .rows-are ∙ ap (λ m. flagsAt m (rowsOf words)) y
 
-  changes-are : (δ : ℤ) → pos from +ℤ δ ≡ pos to → changes (tableOf words) δ ≡ changesTo (tableOf words) b
+  changes-are : (δ : ℤ) → pos (s .position) +ℤ δ ≡ pos to → changes (tableOf words) δ ≡ changesTo (tableOf words) b
   unfolding changes
   changes-are δ e = ap (λ l. flatMap (changeRow (rowsOf words) l) (frames (tableOf words))) (lands δ e)
 
-  module _ (count : ℕ) (size : 4 * count ≡ length (placesText (tableOf words) a b)) (room : ℕ) where
-    counts : (δ : ℤ) → pos from +ℤ δ ≡ pos to → 4 * count ≡ length (changes (tableOf words) δ)
-    counts δ e = size ∙ text-counted (tableOf words) a b (start .flags) ∙ ap length (sym (changes-are δ e))
+  -- What is answered and left where there is room.
+  gives-to : (r : ℕ) → So (isRoot (rowsOf words) r) → (δ : ℤ) → pos (s .position) +ℤ δ ≡ pos to → (lent : List ℕ) →
+      accepted (Call.Traverse words r δ lent)
+      ≡ record { answer = Answer.gives (length (changesTo (tableOf words) b) / 4 ∷ []); lent = written words (movedTo (tableOf words) b) ∷ put lent 0 (changesTo (tableOf words) b) ∷ [] }
+  unfolding accepted
+  gives-to r root δ e lent =
+      ap₂ (λ c t. record { answer = Answer.gives (length c / 4 ∷ []); lent = written words t ∷ put lent 0 c ∷ [] })
+      (ap (λ t. changes t δ) (only-table words s h word r root) ∙ changes-are δ e)
+      (only-walked words s h word r root δ (within δ e) ∙ ap (λ l. record { rows = l; nextDoc = tableOf words .nextDoc; nextFrame = tableOf words .nextFrame }) (lands δ e))
 
-    pub travel-short : room < count → Travels words room from to (Stayed ShortBuffer) words
-    unfolding refusals Given
+  module _ (count : ℕ) (size : 4 * count ≡ length (placesText (tableOf words) a b)) (room : ℕ) where
+    counted : 4 * count ≡ length (changesTo (tableOf words) b)
+    counted = size ∙ text-counted (tableOf words) a b (start .flags)
+
+    counts : (δ : ℤ) → pos (s .position) +ℤ δ ≡ pos to → 4 * count ≡ length (changes (tableOf words) δ)
+    counts δ e = counted ∙ ap length (sym (changes-are δ e))
+
+    pub travel-short : room < count → Travels words room (s .position) to (Stayed ShortBuffer) words
     travel-short l δ e =
-        stays words δ room ShortBuffer (λ lent r.
-        let x = start .examined in
+        stays words δ room ShortBuffer (λ r root lent x.
         let n = counts δ e in
-        let m : length lent < length (changes (tableOf words) δ) = omega arith in
-        outcome-refused (Call.Traverse words δ lent) 9 [] (inr (x .long, inr (rw (x .passes) refl, inr (within δ e, inl (lt-ltb _ _ m, refl, refl))))))
+        let m : length lent < length (changes (tableOf words) δ) = omega arith in only-past words s h word r root δ lent _ _ (within δ e) (lt-ltb _ _ m))
 
     pub travel-done : (words' : List ℕ) (first : ℕ) → NextBetween (tableOf words) 0 a b first → count ≤ room → words' ≡ written words (movedTo (tableOf words) b) →
-        Travels words room from to (Went (record { before = record { 0 = a }; after = record { 0 = b }; first = record { 0 = first }; count = count })) words'
-    unfolding refusals NoneGiven accepted
-    travel-done words' first h l u δ e =
-        let x = start .examined in
-        let n = counts δ e in
+        Travels words room (s .position) to (Went (record { before = record { 0 = a }; after = record { 0 = b }; first = record { 0 = first }; count = count })) words'
+    travel-done words' first f l u δ e =
         let text = moved-text words a b start words' u in
-        let next = moved-next words a b start words' u first h in
-        let size' = size ∙ text-counted (tableOf words) a b (start .flags) ∙ ap length (sym text) in
+        let next = moved-next words a b start words' u first f in
         record {
-          outcome-is = λ lent r.
+          outcome-is = λ r root lent x.
+              let n = counts δ e in
               let m : length (changes (tableOf words) δ) ≤ length lent = omega arith in
-              let k : length (changes (tableOf words) δ) / 4 ≡ count = omega arith in
-              outcome-accepted (Call.Traverse words δ lent) (x .long, (rw (x .passes) refl, (within δ e, (le-ltb _ _ m, tt))))
-              ∙ rw (k, text, u, changes-are δ e, lands δ e) refl;
-          sized = size';
+              let k : length (changesTo (tableOf words) b) / 4 ≡ count = omega (arith, counted) in
+              only-past words s h word r root δ lent _ _ (within δ e) (le-ltb _ _ m) ∙ gives-to r root δ e lent ∙ rw (k, text, u) refl;
+          sized = counted ∙ ap length (sym text);
           begins = begins-next (tableOf words') a b first next;
           foremost = next;
           fits = l;
@@ -237,35 +273,42 @@ goal-outside s (pos k) r e f =
     test (ltb s k) (λ t. t) (λ t. let g : To k ≡ Outside = rw t at (sym e ∙ f) in absurd (let z : _≡_ {A = ℕ} 0 1 = cc in omega arith))
 goal-outside s (negsuc k) r e f = refl
 
-pub beyond-way : (words : List ℕ) (room : ℕ) (δ : ℤ) (s : Stand) → Located words s → So (outside (s .steps) (pos (s .position) +ℤ δ)) → Shifts words δ room (Stayed Beyond) words
-unfolding refusals Given
-beyond-way words room δ s x h =
-    let g : So (outside (steps (rowsOf words)) (pos (position (rowsOf words)) +ℤ δ)) = rw (stand-position words s x, stand-steps words s x) at h in
-    stays words δ room Beyond (λ lent r. outcome-refused (Call.Traverse words δ lent) 6 [] (inr (x .0 .long, inr (rw (x .0 .passes) refl, inl (g, refl, refl)))))
+pub beyond-way : (words : List ℕ) (room : ℕ) (δ : ℤ) (s : Stand) → Located words s → tableOf words .nextDoc ≤ none → So (outside (s .steps) (pos (s .position) +ℤ δ)) →
+    Shifts words δ room (Stayed Beyond) words
+beyond-way words room δ s x word h =
+    let g : So (beyond (rowsOf words) δ) = rw (stand-position words s x, stand-steps words s x) at h in
+    stays words δ room Beyond (λ r root lent z. only-past words s x word r root δ lent _ _ g refl)
 
 -- An amount as it is handed on.
-pub by-amount : (words room : List ℕ) (o : Outcome) (z δ : ℤ) → z ≡ δ → outcome (Call.Traverse words z room) ≡ o → outcome (Call.Traverse words δ room) ≡ o
-by-amount words room o z δ e h = subst (λ d. outcome (Call.Traverse words d room) ≡ o) e h
+pub by-amount : (words room : List ℕ) (r : ℕ) (o : Outcome) (z δ : ℤ) → z ≡ δ → outcome (Call.Traverse words r z room) ≡ o → outcome (Call.Traverse words r δ room) ≡ o
+by-amount words room r o z δ e h = subst (λ d. outcome (Call.Traverse words r d room) ≡ o) e h
 
 pub shift-by : (words words' : List ℕ) (room : ℕ) (s : Shifted) (z δ : ℤ) → z ≡ δ → Shifts words z room s words' → Shifts words δ room s words'
 shift-by words words' room s z δ e h = subst (λ d. Shifts words d room s words') e h
 
--- Refused by the first two rungs.
-pub survey-way : (words : List ℕ) (room : ℕ) (δ : ℤ) (k : Survey) (r : Refusal) → k ≡ surveyOf words → k ≡ No r → Shifts words δ room (Stayed r) words
+-- Refused by the first two rungs,
+pub survey-way : (words : List ℕ) (r : ℕ) (δ : ℤ) (lent : List ℕ) (k : Survey) (why : Refusal) → k ≡ surveyOf words → k ≡ No why →
+    outcome (Call.Traverse words r δ lent) ≡ record { answer = traversedIs (Refused why); lent = words ∷ lent ∷ [] }
 unfolding refusals
-survey-way words room δ k r e f = stays words δ room r (λ lent z. outcome-refused (Call.Traverse words δ lent) _ _ (survey-given words _ k r e f))
+survey-way words r δ lent k why e f = outcome-refused (Call.Traverse words r δ lent) _ _ (survey-given words _ k why e f)
+
+-- or by the third.
+pub root-way : (words : List ℕ) (r : ℕ) (δ : ℤ) (lent : List ℕ) → Examined words → isRoot (rowsOf words) r ≡ false →
+    outcome (Call.Traverse words r δ lent) ≡ record { answer = traversedIs (Refused NoRoot); lent = words ∷ lent ∷ [] }
+unfolding refusals Given
+root-way words r δ lent x f = outcome-refused (Call.Traverse words r δ lent) 13 [] (inr (x .long, inr (rw (x .passes) refl, inl (rw f refl, refl, refl))))
 
 -- Whoever writes the change rows of a shift.
 pub went-ready : (words words' : List ℕ) (δ : ℤ) (room : ℕ) (s : Shifted) → Shifts words δ room s words' → (t : Trip) → s ≡ Went t → Ready words' (t .before .0) (t .after .0) × NextBetween (tableOf words') 0 (t .before .0) (t .after .0) (t .first .0)
 went-ready words words' δ room s h t e = (subst (Arrived words') e (h .arrived), subst (Foremost words') e (h .foremost))
 
-module _ (words words' : List ℕ) (δ : ℤ) (s : Shifted) (lent : List ℕ) where
+module _ (words words' : List ℕ) (r : ℕ) (root : So (isRoot (rowsOf words) r)) (δ : ℤ) (s : Shifted) (lent : List ℕ) where
   pub went-way : (lent' : List ℕ) → Shifts words δ (length lent / 4) s words' → (t : Trip) → s ≡ Went t → lent' ≡ put lent 0 (tripText words' t) →
-      outcome (Call.Traverse words δ lent) ≡ record { answer = traversedIs (Changes (t .count)); lent = words' ∷ lent' ∷ [] }
-  went-way lent' h t e w = h .outcome-is lent refl ∙ rw (e, w) refl
+      outcome (Call.Traverse words r δ lent) ≡ record { answer = traversedIs (Changes (t .count)); lent = words' ∷ lent' ∷ [] }
+  went-way lent' h t e w = h .outcome-is r root lent refl ∙ rw (e, w) refl
 
-  pub stayed-way : Shifts words δ (length lent / 4) s words' → (r : Refusal) → s ≡ Stayed r →
-      outcome (Call.Traverse words δ lent) ≡ record { answer = traversedIs (Refused r); lent = words' ∷ lent ∷ [] }
-  stayed-way h r e =
-      h .outcome-is lent refl
-      ∙ rw e (ap (λ z. record { answer = traversedIs (Refused r); lent = words' ∷ z ∷ [] }) (ap (put lent 0) (no-text (tableOf words') 0) ∙ sym (put-none lent 0)))
+  pub stayed-way : Shifts words δ (length lent / 4) s words' → (why : Refusal) → s ≡ Stayed why →
+      outcome (Call.Traverse words r δ lent) ≡ record { answer = traversedIs (Refused why); lent = words' ∷ lent ∷ [] }
+  stayed-way h why e =
+      h .outcome-is r root lent refl
+      ∙ rw e (ap (λ z. record { answer = traversedIs (Refused why); lent = words' ∷ z ∷ [] }) (ap (put lent 0) (no-text (tableOf words') 0) ∙ sym (put-none lent 0)))

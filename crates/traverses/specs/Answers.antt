@@ -1,11 +1,13 @@
 -- What Traverse answers, in the rules' terms, and what it leaves. Definitions.
 use Prim.Native.Nat.{ℕ, _*_, _/_, _≤_}
+use mathlib.Core.Bool.{So}
 use mathlib.Core.List.{List, [], _∷_}
 use mathlib.Core.Path.{_≡_}
 use lib.IntN.{ℤ, pos, _+ℤ_}
 use lib.ListN.{length}
 use Rattle.base.specs.Numbers.{numberOf, carriedBy}
-use Rattle.rules.specs.Words.{put, tableOf}
+use Rattle.rules.specs.Windows.{isRoot}
+use Rattle.rules.specs.Words.{put, tableOf, rowsOf}
 use Rattle.rules.specs.Calls.{Call, Answer, outcome}
 use Rattle.traverses.specs.declared.Traversed.{Traversed}
 use Rattle.traverses.specs.declared.Traversed.the-variants.{Changes, Refused}
@@ -47,10 +49,10 @@ abbrev pub Foremost : List ℕ → Shifted → Type 0
 Foremost words (Went t) = NextBetween (tableOf words) 0 (t .before .0) (t .after .0) (t .first .0)
 Foremost words (Stayed r) = Unit {0}
 
--- The record has become words', and with room lent for so many change rows the outcome is this: the answer, words', and the trip's change rows.
+-- The record of one window has become words', and with its root frame and room lent for so many change rows the outcome is this: the answer, words', and the trip's change rows.
 pub record Shifts (words : List ℕ) (δ : ℤ) (room : ℕ) (s : Shifted) (words' : List ℕ) : Type 0 where
-  pub outcome-is : (lent : List ℕ) → length lent / 4 ≡ room →
-      outcome (Call.Traverse words δ lent) ≡ record { answer = traversedIs (answerOf s); lent = words' ∷ put lent 0 (tripText words' (tripOf s)) ∷ [] }
+  pub outcome-is : (r : ℕ) → So (isRoot (rowsOf words) r) → (lent : List ℕ) → length lent / 4 ≡ room →
+      outcome (Call.Traverse words r δ lent) ≡ record { answer = traversedIs (answerOf s); lent = words' ∷ put lent 0 (tripText words' (tripOf s)) ∷ [] }
   pub sized : 4 * tripOf s .count ≡ length (tripText words' (tripOf s))
   pub begins : TripBegins words' (tripOf s)
   pub foremost : Foremost words' s

@@ -9,11 +9,11 @@ use lib.ListN.{length}
 use Rattle.rules.specs.Below.{count, gather}
 use Rattle.rules.specs.Rows.{Row, none, rowAt, docAt, place}
 use Rattle.rules.specs.Steps.{Hider, isNobody, Climb, ended, further, lost, climbAt, hiderAt, visibleAt, visible}
+use Rattle.rules.specs.Windows.{rootAt, inWindow, windowRows}
 use Rattle.laws.proofs.Append.{length-snoc, snoc-old, snoc-new}
 use Rattle.laws.proofs.Kept.{kept, kept-row}
 use Rattle.laws.proofs.Tree.{TreeOf, place-is, alike}
 use Rattle.laws.proofs.Climb.{sees-in}
-use Rattle.windows.specs.Windows.{rootAt, inWindow, windowRows}
 use Rattle.windows.proofs.Along.{along}
 use Rattle.windows.proofs.Roots.{root-top, root-up, root-same}
 use Rattle.windows.proofs.Wholes.{gather-same}

@@ -2,7 +2,7 @@
 use Prim.Native.Nat.{ℕ, _<_}
 use mathlib.Core.Bool.{Bool, false, _&&_, So, cond, and-eq-true-iff}
 use mathlib.Core.List.{List, [], flatMap}
-use mathlib.Core.Path.{_≡_, refl, sym, ap, _∙_, subst}
+use mathlib.Core.Path.{_≡_, refl, sym, ap, _∙_}
 use native.Mathlib.Omega.{arith}
 use lib.Dec.{eqb}
 use lib.IntN.{ℤ, pos, _+ℤ_}
@@ -10,22 +10,19 @@ use lib.ListN.{length}
 use borrow.Author.Tests.{eqb-true, eqb-false, eq-eqb}
 use Rattle.rules.specs.Below.{count}
 use Rattle.rules.specs.Rows.{Row, Table, rowAt, docAt, frameAt, isShown, inFrame, isFrame}
-use Rattle.rules.specs.Steps.{position, steps, visible, visibleAt}
-use Rattle.rules.specs.Moves.{frames, walked, shownDoc, changeRow, changes}
+use Rattle.rules.specs.Steps.{position, steps, visible}
+use Rattle.rules.specs.Moves.{frames, walked, shownDoc, changeRow, changes, reflagged, traversed}
 use Rattle.rules.specs.Sound.{S6}
 use Rattle.rules.specs.Calls.{outside}
-use Rattle.laws.proofs.Tests.{test, same-tests, clash, off, some-in, some-out, one-out, latest-is}
+use Rattle.rules.specs.Windows.{rootAt, inWindow, windowRows, windowOf}
+use Rattle.laws.proofs.Tests.{test, clash, off, some-in, some-out, one-out, latest-is}
 use Rattle.laws.proofs.Flags.{flags-length, flags-frame}
-use Rattle.laws.proofs.Tree.{distinct}
-use Rattle.laws.proofs.Climb.{sees-out}
-use Rattle.windows.specs.Windows.{rootAt, inWindow, windowRows, windowOf, reflagged, traversedIn}
 use Rattle.windows.proofs.Roots.{root-flags}
 use Rattle.windows.proofs.Window.{WideRows, window-row, window-place, window-came, window-whole, window-sound}
 use Rattle.windows.proofs.Parts.{own}
 use Rattle.windows.proofs.Flagged.{traversed-here, traversed-there, traversed-sound}
-use Rattle.windows.proofs.Added.{window-sees}
 use Rattle.windows.proofs.Outline.{flat-fewer, frames-more}
-use Rattle.windows.proofs.Alike.{sees-back}
+use Rattle.windows.proofs.Members.{is-member, member-visible}
 
 pub frame-row : (rows : List Row) (f : ℕ) → So (isFrame rows f) → (i : ℕ) × (i < length rows) × (frameAt rows i ≡ f)
 unfolding isFrame
@@ -71,11 +68,7 @@ module _ (rows : List Row) {a b : ℕ} (s : WideRows rows a b) (r f i : ℕ) (l 
       let sh : So (isShown rows (c .0)) = ap (λ y. eqb (y .shown) 1) (sym (ap (λ i. rowAt own-rows i) (sym (c .3)) ∙ window-row rows r (c .0) (c .1) (c .2))) ∙ k .3 in
       let q = only (c .0) (j .0) (c .1) (j .1) (sym (c .4 .f) ∙ k .2) (j .2) sh (j .3) in (
         k .4 ∙ c .4 .d ∙ ap (docAt rows) q ∙ sym (j .4),
-        ap (λ d. visible own-rows d) (j .4) ∙ same-tests
-            (λ v. sees-back rows (s .tree) r (docAt rows (j .0)) v .0)
-            (λ v.
-            let z = sees-out rows (docAt rows (j .0)) v in
-            window-sees rows (s .tree) r (docAt rows (j .0)) (j .0) (j .1) refl w (subst (λ i. So (visibleAt rows i)) (distinct (s .tree) (z .0) (j .0) (z .1) (j .1) (z .2)) (z .3)))
+        ap (λ d. visible own-rows d) (j .4) ∙ member-visible rows (s .tree) r (docAt rows (j .0)) (is-member rows (s .tree) r (docAt rows (j .0)) (j .0) (j .1) refl w)
             ∙ ap (λ d. visible rows d) (sym (j .4)),
       )
     where
@@ -89,14 +82,14 @@ module _ (t : Table) (s : WideRows (t .rows) (t .nextDoc) (t .nextFrame)) (r : �
   rows = t .rows
 
   abbrev after : List Row
-  after = traversedIn t r δ .rows
+  after = traversed t r δ .rows
 
   abbrev own-rows : List Row
   own-rows = windowRows r rows
 
   -- A row is where it was, in its frame and its window.
   after-row : (i : ℕ) → i < length rows → (i < length after) × (frameAt after i ≡ frameAt rows i) × (rootAt after i ≡ rootAt rows i)
-  unfolding traversedIn reflagged
+  unfolding traversed reflagged
   after-row i l = (rw flags-length l, ap (λ g. g i) (flags-frame _ rows), root-flags rows (s .tree) _ i l)
 
   after-sound : WideRows after (t .nextDoc) (t .nextFrame)

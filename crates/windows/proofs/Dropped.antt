@@ -1,18 +1,18 @@
 -- A frame taken out of the table is taken out of its window, and no other loses a row. Assumes nothing.
 use Prim.Native.Nat.{ℕ, _<_}
-use mathlib.Core.Path.{_≡_, sym, ap, _∙_, subst}
+use mathlib.Core.Path.{_≡_, sym, _∙_, subst}
 use mathlib.Core.List.{List}
 use mathlib.Core.Logic.{_≢_}
-use lib.Dec.{eqb}
 use lib.ListN.{length}
 use borrow.Author.Tests.{eqb-true, ne-eqb}
 use Rattle.rules.specs.Rows.{Row, Table, frameAt, inFrame}
 use Rattle.rules.specs.Moves.{dropped}
-use Rattle.rules.specs.Sound.{S6, S7}
+use Rattle.rules.specs.Sound.{S6}
+use Rattle.rules.specs.Windows.{rootAt, windowRows, windowOf}
+use Rattle.laws.specs.Alone.{InOrder}
 use Rattle.laws.proofs.Drop.{dropped-sound}
-use Rattle.windows.specs.Windows.{rootAt, windowRows, windowOf}
 use Rattle.windows.proofs.Roots.{root-frame}
-use Rattle.windows.proofs.Window.{WideRows, window-row, window-sound}
+use Rattle.windows.proofs.Window.{WideRows, window-frame, window-sound}
 use Rattle.windows.proofs.Parts.{windows-sound}
 use Rattle.windows.proofs.Without.{window-without, without-there, without-tree}
 
@@ -23,7 +23,7 @@ module _ (t : Table) (s : WideRows (t .rows) (t .nextDoc) (t .nextFrame)) (f : �
   -- Every window is left as if the frame were taken out of it by itself.
   pub dropped-here : (v : ℕ) → windowRows v (dropped t f .rows) ≡ dropped (windowOf t v) f .rows
   dropped-here v =
-      window-without rows (s .tree) v (inFrame rows f) (inFrame (windowRows v rows) f) (λ k l u. ap (λ x. eqb (x .frame) f) (window-row rows v k l u))
+      window-without rows (s .tree) v (inFrame rows f) (inFrame (windowRows v rows) f) (window-frame rows v f)
 
   -- Where the frame is of another window, the rows stay.
   pub dropped-there : (i : ℕ) → i < length rows → frameAt rows i ≡ f → (v : ℕ) → v ≢ rootAt rows i → windowRows v (dropped t f .rows) ≡ windowRows v rows
@@ -35,4 +35,4 @@ module _ (t : Table) (s : WideRows (t .rows) (t .nextDoc) (t .nextFrame)) (f : �
   dropped-wide =
       windows-sound (dropped t f .rows) (without-tree rows (s .tree) (inFrame rows f))
       (λ v. subst S6 (sym (dropped-here v)) (dropped-sound (windowOf t v) f (window-sound rows s v) .s6))
-      (λ v. subst S7 (sym (dropped-here v)) (dropped-sound (windowOf t v) f (window-sound rows s v) .s7))
+      (λ v. subst InOrder (sym (dropped-here v)) (dropped-sound (windowOf t v) f (window-sound rows s v) .s7))

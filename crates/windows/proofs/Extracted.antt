@@ -11,11 +11,11 @@ use lib.ListN.{length}
 use borrow.Author.Tests.{eqb-true, eq-eqb}
 use Rattle.rules.specs.Rows.{Row, none, rowAt, parentAt, inFrame}
 use Rattle.rules.specs.Moves.{gone, without}
+use Rattle.rules.specs.Windows.{inWindow, windowRows}
 use Rattle.laws.proofs.Tests.{same-tests}
 use Rattle.laws.proofs.Tree.{TreeOf, distinct, proper}
 use Rattle.laws.proofs.Climb.{gone-self, gone-child, gone-cases}
 use Rattle.laws.proofs.Removal.{stays}
-use Rattle.windows.specs.Windows.{inWindow, windowRows}
 use Rattle.windows.proofs.Roots.{root-top, root-up}
 use Rattle.windows.proofs.Wholes.{gather-same}
 

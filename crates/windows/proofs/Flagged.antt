@@ -12,15 +12,16 @@ use borrow.Author.Tests.{eqb-true, ne-eqb}
 use Rattle.rules.specs.Below.{count}
 use Rattle.rules.specs.Rows.{Row, Table, rowAt, shownAt, isShown, withFlags}
 use Rattle.rules.specs.Steps.{position, steps}
-use Rattle.rules.specs.Moves.{walked, traversed}
-use Rattle.rules.specs.Sound.{S6, S7}
+use Rattle.rules.specs.Moves.{walked, reflagged, traversed}
+use Rattle.rules.specs.Sound.{S6}
 use Rattle.rules.specs.Calls.{outside}
+use Rattle.rules.specs.Windows.{rootAt, inWindow, windowRows}
+use Rattle.laws.specs.Alone.{InOrder}
 use Rattle.laws.proofs.Tests.{count-all}
 use Rattle.laws.proofs.Flags.{flags-length, flags-row, flags-same, flags-eq}
 use Rattle.laws.proofs.Central.{flagsAt, at-shown, at-S6, at-S7}
 use Rattle.laws.proofs.Travel.{walked-at}
 use Rattle.laws.proofs.Tree.{TreeOf, OneRoot, tree-flags}
-use Rattle.windows.specs.Windows.{rootAt, inWindow, windowRows, reflagged, traversedIn}
 use Rattle.windows.proofs.Roots.{root-flags, root-one}
 use Rattle.windows.proofs.Wholes.{gather-same, kept-flags}
 use Rattle.windows.proofs.Window.{WideRows, window-row, window-sound, window-all}
@@ -79,33 +80,33 @@ module _ (t : Table) (s : WideRows (t .rows) (t .nextDoc) (t .nextFrame)) (r : �
   own = windowRows r rows
 
   -- The window's rows are what one-window traversal makes of them.
-  pub traversed-here : windowRows r (traversedIn t r δ .rows) ≡ walked δ own
-  unfolding traversedIn
+  pub traversed-here : windowRows r (traversed t r δ .rows) ≡ walked δ own
+  unfolding traversed
   traversed-here =
       let w = walked-at own (window-sound rows s r .s6) (window-sound rows s r .s7) δ h in
       flagged-here rows (s .tree) (s .s6) r (walked δ own) ∙ ap (λ l. withFlags (isShown l) own) (w .rows-are) ∙ own-at (w .to) own ∙ sym (w .rows-are)
 
-  pub traversed-there : (v : ℕ) → v ≢ r → windowRows v (traversedIn t r δ .rows) ≡ windowRows v rows
-  unfolding traversedIn
+  pub traversed-there : (v : ℕ) → v ≢ r → windowRows v (traversed t r δ .rows) ≡ windowRows v rows
+  unfolding traversed
   traversed-there v ne = flagged-there rows (s .tree) (s .s6) r (walked δ own) v ne (window-sound rows s v .s6)
 
-  pub traversed-outside : (k : ℕ) → k < length rows → inWindow r rows k ≡ false → rowAt (traversedIn t r δ .rows) k ≡ rowAt rows k
-  unfolding traversedIn
+  pub traversed-outside : (k : ℕ) → k < length rows → inWindow r rows k ≡ false → rowAt (traversed t r δ .rows) k ≡ rowAt rows k
+  unfolding traversed
   traversed-outside = flagged-outside rows (s .tree) (s .s6) r (walked δ own)
 
-  walked-tree : TreeOf (traversedIn t r δ .rows) (t .nextDoc) (t .nextFrame)
-  unfolding traversedIn
+  walked-tree : TreeOf (traversed t r δ .rows) (t .nextDoc) (t .nextFrame)
+  unfolding traversed
   walked-tree = flagged-tree rows (s .tree) (s .s6) r (walked δ own)
 
-  pub traversed-sound : WideRows (traversedIn t r δ .rows) (t .nextDoc) (t .nextFrame)
+  pub traversed-sound : WideRows (traversed t r δ .rows) (t .nextDoc) (t .nextFrame)
   traversed-sound =
       let w = walked-at own (window-sound rows s r .s6) (window-sound rows s r .s7) δ h in
       let e = traversed-here ∙ w .rows-are in
-      one-window rows (traversedIn t r δ .rows) r s walked-tree (subst S6 (sym e) (at-S6 (w .to) own)) (subst S7 (sym e) (at-S7 (w .to) own)) traversed-there
+      one-window rows (traversed t r δ .rows) r s walked-tree (subst S6 (sym e) (at-S6 (w .to) own)) (subst InOrder (sym e) (at-S7 (w .to) own)) traversed-there
 
   -- With one root frame it is the traversal of the table.
-  pub traversed-alone : OneRoot rows → (i : ℕ) → i < length rows → So (inWindow r rows i) → traversedIn t r δ .rows ≡ traversed t δ .rows
-  unfolding traversedIn reflagged
+  pub traversed-alone : OneRoot rows → (i : ℕ) → i < length rows → So (inWindow r rows i) → traversed t r δ .rows ≡ walked δ rows
+  unfolding traversed reflagged
   traversed-alone one i l u =
       let w = walked-at own (window-sound rows s r .s6) (window-sound rows s r .s7) δ h in
       let all : (k : ℕ) → k < length rows → So (inWindow r rows k) = λ k m. rw (root-one rows (s .tree) one k i m l) u in

@@ -10,11 +10,11 @@ use borrow.Author.Tests.{eqb-true}
 use Rattle.rules.specs.Below.{rising}
 use Rattle.rules.specs.Rows.{Row, Table, none, frameAt, inFrame, isFrame}
 use Rattle.rules.specs.Steps.{position, steps}
-use Rattle.rules.specs.Moves.{walked, changeRow, changes}
+use Rattle.rules.specs.Moves.{walked, changeRow, changes, traversed}
 use Rattle.rules.specs.Asks.{takenList, upcomingList, outlineFrame, outlineOf}
 use Rattle.rules.specs.Calls.{outside}
+use Rattle.rules.specs.Windows.{windowRows, windowOf}
 use Rattle.laws.proofs.Tests.{off, by-lt, some-out, gather-flat}
-use Rattle.windows.specs.Windows.{windowRows, windowOf, traversedIn}
 use Rattle.windows.proofs.Window.{WideRows, window-tree}
 use Rattle.windows.proofs.Flagged.{traversed-here}
 
@@ -37,7 +37,7 @@ pub record Same (t u : Table) (r : ℕ) : Type 0 where
   pub outline : outlineOf (windowOf t r) ≡ outlineOf (windowOf u r)
   pub changed : (δ : ℤ) → changes (windowOf t r) δ ≡ changes (windowOf u r) δ
   pub walks : (δ : ℤ) → outside (steps (windowRows r (t .rows))) (pos (position (windowRows r (t .rows))) +ℤ δ) ≡ false →
-      windowRows r (traversedIn t r δ .rows) ≡ windowRows r (traversedIn u r δ .rows)
+      windowRows r (traversed t r δ .rows) ≡ windowRows r (traversed u r δ .rows)
 
 -- "Traversal, lists, outline and position of a window depend only on its own rows and the caller's numbers and buffers"
 pub own-rows-only : (t u : Table) → WideRows (t .rows) (t .nextDoc) (t .nextFrame) → WideRows (u .rows) (u .nextDoc) (u .nextFrame) → (r : ℕ) →

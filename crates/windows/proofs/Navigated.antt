@@ -11,8 +11,10 @@ use borrow.Author.Tests.{eqb-true, eq-eqb, ne-eqb}
 use Rattle.rules.specs.Below.{count}
 use Rattle.rules.specs.Rows.{Row, Table, none, rowAt, docAt, frameAt, parentAt, isShown, isDoc, place, withFlags}
 use Rattle.rules.specs.Steps.{upcoming, position, visibleAt, visible}
-use Rattle.rules.specs.Moves.{without, cleared, hide, navigated}
-use Rattle.rules.specs.Sound.{S6, S7}
+use Rattle.rules.specs.Moves.{without, hide, upcomingIn, cleared, navigated}
+use Rattle.rules.specs.Sound.{S6}
+use Rattle.rules.specs.Windows.{rootAt, inWindow, windowRows, windowOf}
+use Rattle.laws.specs.Alone.{InOrder, clearedAll, navigatedAll}
 use Rattle.laws.proofs.Tests.{count-in}
 use Rattle.laws.proofs.Flags.{flags-length, flags-frame, flags-parent}
 use Rattle.laws.proofs.Central.{central}
@@ -22,7 +24,6 @@ use Rattle.laws.proofs.Tree.{TreeOf, distinct, place-is, Alike, alike, tree-fla
 use Rattle.laws.proofs.Climb.{sees-out}
 use Rattle.laws.proofs.Removal.{stays, stays-up, visible-stays}
 use Rattle.laws.proofs.Navigate.{navigated-sound}
-use Rattle.windows.specs.Windows.{rootAt, inWindow, windowRows, windowOf, upcomingIn, clearedIn, navigatedIn}
 use Rattle.windows.proofs.Roots.{root-frame, root-along, root-flags}
 use Rattle.windows.proofs.Window.{WideRows, window-up, window-row, window-place, window-upcoming, window-sound}
 use Rattle.windows.proofs.Parts.{one-window}
@@ -39,10 +40,10 @@ module _ (t : Table) (s : WideRows (t .rows) (t .nextDoc) (t .nextFrame)) (unuse
   window = rootAt rows (place rows d)
 
   abbrev c : List Row
-  c = clearedIn window rows
+  c = cleared window rows
 
   -- d's row, in its window.
-  row : (i : ℕ) × (i < length rows) × (docAt rows i ≡ d) × So (visibleAt rows i) × (place rows d ≡ i)
+  pub row : (i : ℕ) × (i < length rows) × (docAt rows i ≡ d) × So (visibleAt rows i) × (place rows d ≡ i)
   row = let v = sees-out rows d sees in (v .0, v .1, v .2, v .3, place-is rows (s .tree) (v .0) d (v .1) (v .2))
 
   inside : So (inWindow window rows (row .0))
@@ -61,7 +62,7 @@ module _ (t : Table) (s : WideRows (t .rows) (t .nextDoc) (t .nextFrame)) (unuse
       ∙ visible-stays own so (position own) (omega arith) k (window-place rows window (row .0) (row .1) inside) (subst (λ l. So (visibleAt l k)) (sym (central own (so .s6) (so .s7))) v)
 
   -- Its place then.
-  stayed : (k : ℕ) × (k < length c) × Alike c k rows (row .0) × (rootAt c k ≡ window)
+  pub stayed : (k : ℕ) × (k < length c) × Alike c k rows (row .0) × (rootAt c k ≡ window)
   unfolding without
   stayed =
       let keep = stays (upcomingIn window rows) rows in (
@@ -114,7 +115,7 @@ module _ (t : Table) (s : WideRows (t .rows) (t .nextDoc) (t .nextFrame)) (unuse
       root-frame (h ++ x ∷ []) new-tree (length h) (k .0) (omega (arith, length-snoc h x)) (omega (arith, length-snoc h x, k .1)) (n .f ∙ sym (k .2) ∙ sym (o .f))
       ∙ root-old h x hidden-tree (k .0) (k .1) ∙ k .4
 
-  hide-here : windowRows window h ≡ hide d (cleared (windowRows window rows))
+  hide-here : windowRows window h ≡ hide d (clearedAll (windowRows window rows))
   unfolding hide
   hide-here =
       window-flags (λ i. not (isDoc c d i) && isShown c i) c c-tree window (λ i. not (isDoc (windowRows window c) d i) && isShown (windowRows window c) i)
@@ -131,8 +132,8 @@ module _ (t : Table) (s : WideRows (t .rows) (t .nextDoc) (t .nextFrame)) (unuse
       ∙ own-flags (windowRows v c) (window-sound c (cleared-sound rows s window) v .s6 .bit)
 
   -- NAVIGATE IN A WINDOW
-  pub navigated-here : windowRows window (navigatedIn t d .rows) ≡ navigated (windowOf t window) d .rows
-  unfolding navigatedIn navigated
+  pub navigated-here : windowRows window (navigated t d .rows) ≡ navigatedAll (windowOf t window) d .rows
+  unfolding navigated navigatedAll
   navigated-here =
       let own = windowRows window rows in
       let e : rowAt own (place own d) ≡ rowAt rows (place rows d) =
@@ -140,13 +141,13 @@ module _ (t : Table) (s : WideRows (t .rows) (t .nextDoc) (t .nextFrame)) (unuse
       snoc-in h x hidden-tree window (eq-eqb _ _ new-root)
       ∙ ap₂ (λ l (r : Row). l ++ record { doc = t .nextDoc; frame = r .frame; parent = r .parent; shown = 1 } ∷ []) hide-here (sym e)
 
-  pub navigated-there : (v : ℕ) → v ≢ window → windowRows v (navigatedIn t d .rows) ≡ windowRows v rows
-  unfolding navigatedIn
+  pub navigated-there : (v : ℕ) → v ≢ window → windowRows v (navigated t d .rows) ≡ windowRows v rows
+  unfolding navigated
   navigated-there v ne =
       snoc-out h x hidden-tree v (ne-eqb _ _ (λ e. ne (sym e ∙ new-root))) ∙ hide-there v ne ∙ cleared-there rows s window v ne
 
-  pub navigated-wide : WideRows (navigatedIn t d .rows) (suc (t .nextDoc)) (t .nextFrame)
-  unfolding navigatedIn
+  pub navigated-wide : WideRows (navigated t d .rows) (suc (t .nextDoc)) (t .nextFrame)
+  unfolding navigated
   navigated-wide =
       let o = navigated-sound (windowOf t window) (window-sound rows s window) unused d (window-sees rows (s .tree) window d (row .0) (row .1) (row .2) inside (row .3)) in
-      one-window rows (h ++ x ∷ []) window s new-tree (subst S6 (sym navigated-here) (o .s6)) (subst S7 (sym navigated-here) (o .s7)) navigated-there
+      one-window rows (h ++ x ∷ []) window s new-tree (subst S6 (sym navigated-here) (o .s6)) (subst InOrder (sym navigated-here) (o .s7)) navigated-there

@@ -10,15 +10,16 @@ use borrow.Author.Tests.{eq-eqb, ne-eqb}
 use Rattle.rules.specs.Below.{someBelow, gather, tab}
 use Rattle.rules.specs.Rows.{Row, Table, none, rowAt, place, withFlags}
 use Rattle.rules.specs.Steps.{step, visible}
-use Rattle.rules.specs.Moves.{opened}
-use Rattle.rules.specs.Sound.{S6, S7}
+use Rattle.rules.specs.Moves.{opened, tabbed}
+use Rattle.rules.specs.Sound.{S6}
+use Rattle.rules.specs.Windows.{rootAt, inWindow, windowRows, windowOf}
+use Rattle.laws.specs.Alone.{InOrder}
 use Rattle.laws.proofs.Tests.{gather-flat}
 use Rattle.laws.proofs.Central.{flagsAt, at-S6, at-S7}
 use Rattle.laws.proofs.Append.{append-at}
 use Rattle.laws.proofs.Tree.{TreeOf, place-is, tree-add}
 use Rattle.laws.proofs.Climb.{sees-out}
 use Rattle.laws.proofs.Navigate.{opened-sound}
-use Rattle.windows.specs.Windows.{rootAt, inWindow, windowRows, windowOf, tabbed}
 use Rattle.windows.proofs.Roots.{root-row}
 use Rattle.windows.proofs.Window.{WideRows, window-sound}
 use Rattle.windows.proofs.Parts.{one-window}
@@ -62,7 +63,7 @@ module _ (t : Table) (s : WideRows (t .rows) (t .nextDoc) (t .nextFrame)) (unuse
         let e = place-is rows (s .tree) (v .0) p (v .1) (v .2) in
         let o = opened-sound (windowOf t windowOfDoc) (window-sound rows s windowOfDoc) unused p
         (window-sees rows (s .tree) windowOfDoc p (v .0) (v .1) (v .2) (eq-eqb _ _ (ap (rootAt rows) (sym e))) (v .3)) in
-        one-window rows (rows ++ child ∷ []) windowOfDoc s opened-tree (subst S6 (sym opened-here) (o .s6)) (subst S7 (sym opened-here) (o .s7)) opened-there
+        one-window rows (rows ++ child ∷ []) windowOfDoc s opened-tree (subst S6 (sym opened-here) (o .s6)) (subst InOrder (sym opened-here) (o .s7)) opened-there
 
   -- A NEW WINDOW
 
@@ -84,11 +85,11 @@ module _ (t : Table) (s : WideRows (t .rows) (t .nextDoc) (t .nextFrame)) (unuse
   nothing-yet = gather-flat (inWindow (t .nextFrame) rows) (rowAt rows) (length rows) {i = 0} (omega arith) (λ k m l. not-yet k l)
 
   pub tabbed-here : windowRows (t .nextFrame) (tabbed t .rows) ≡ top ∷ []
-  unfolding tabbed
+  unfolding tabbed opened
   tabbed-here = snoc-in rows top (s .tree) (t .nextFrame) (eq-eqb _ _ (root-new-top rows top (s .tree) refl)) ∙ ap (λ l. l ++ top ∷ []) nothing-yet
 
   pub tabbed-there : (v : ℕ) → v ≢ t .nextFrame → windowRows v (tabbed t .rows) ≡ windowRows v rows
-  unfolding tabbed
+  unfolding tabbed opened
   tabbed-there v ne = snoc-out rows top (s .tree) v (ne-eqb _ _ (λ e. ne (sym e ∙ root-new-top rows top (s .tree) refl)))
 
   -- One row that is shown is sound.
@@ -97,7 +98,7 @@ module _ (t : Table) (s : WideRows (t .rows) (t .nextDoc) (t .nextFrame)) (unuse
   alone = append-at 0 [] top (omega arith)
 
   pub tabbed-wide : WideRows (tabbed t .rows) (tabbed t .nextDoc) (tabbed t .nextFrame)
-  unfolding tabbed
+  unfolding tabbed opened
   tabbed-wide =
       one-window rows (rows ++ top ∷ []) (t .nextFrame) s top-tree
-      (subst S6 (alone ∙ sym tabbed-here) (at-S6 0 (top ∷ []))) (subst S7 (alone ∙ sym tabbed-here) (at-S7 0 (top ∷ []))) tabbed-there
+      (subst S6 (alone ∙ sym tabbed-here) (at-S6 0 (top ∷ []))) (subst InOrder (alone ∙ sym tabbed-here) (at-S7 0 (top ∷ []))) tabbed-there

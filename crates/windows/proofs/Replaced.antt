@@ -11,11 +11,12 @@ use lib.ListN.{length}
 use borrow.Author.Tests.{eqb-true, ne-eqb}
 use Rattle.rules.specs.Rows.{Row, Table, none, noRow, rowAt, docAt, parentAt, isDoc}
 use Rattle.rules.specs.Moves.{without, isChild, named, renamed, replaced}
-use Rattle.rules.specs.Sound.{S6, S7}
+use Rattle.rules.specs.Sound.{S6}
+use Rattle.rules.specs.Windows.{rootAt, inWindow, windowRows, windowOf}
+use Rattle.laws.specs.Alone.{InOrder}
 use Rattle.laws.proofs.Tests.{tab-is}
 use Rattle.laws.proofs.Tree.{TreeOf, parent-earlier}
 use Rattle.laws.proofs.Replace.{renamed-length, renamed-frame, renamed-parent, renamed-doc, tree-renamed, bare, replaced-sound}
-use Rattle.windows.specs.Windows.{rootAt, inWindow, windowRows, windowOf}
 use Rattle.windows.proofs.Roots.{root-top, root-up}
 use Rattle.windows.proofs.Wholes.{gather-same, kept-map}
 use Rattle.windows.proofs.Window.{WideRows, window-row, window-came, window-sound}
@@ -98,4 +99,4 @@ module _ (t : Table) (s : WideRows (t .rows) (t .nextDoc) (t .nextFrame)) (unuse
       let w = s .tree .word in
       windows-sound (renamed d (t .nextDoc) bared) (tree-renamed d (t .nextDoc) bared bared-tree (omega arith) (bare t d (s .tree)))
       (λ v. subst S6 (sym (replaced-here v)) (replaced-sound (windowOf t v) d (window-sound rows s v) unused .s6))
-      (λ v. subst S7 (sym (replaced-here v)) (replaced-sound (windowOf t v) d (window-sound rows s v) unused .s7))
+      (λ v. subst InOrder (sym (replaced-here v)) (replaced-sound (windowOf t v) d (window-sound rows s v) unused .s7))

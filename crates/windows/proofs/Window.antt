@@ -1,5 +1,5 @@
 -- A window's rows are a record by themselves: sound where the table is, with the table's own steps. Assumes nothing.
-use Prim.Native.Nat.{ℕ, _<_}
+use Prim.Native.Nat.{ℕ, _<_, _≤_}
 use mathlib.Core.Path.{_≡_, refl, sym, ap, ap₂, _∙_, subst}
 use mathlib.Core.List.{List}
 use mathlib.Core.Bool.{not, _&&_, So}
@@ -8,14 +8,15 @@ use lib.Dec.{eqb}
 use lib.ListN.{length}
 use borrow.Author.Tests.{eqb-true, eq-eqb}
 use Rattle.rules.specs.Below.{count}
-use Rattle.rules.specs.Rows.{Row, none, rowAt, docAt, frameAt, parentAt, isShown}
+use Rattle.rules.specs.Rows.{Row, Table, none, rowAt, docAt, frameAt, parentAt, isShown, inFrame}
 use Rattle.rules.specs.Steps.{isStep, reached, taken, upcoming, position, steps}
-use Rattle.rules.specs.Sound.{S6, S7}
+use Rattle.rules.specs.Sound.{S6, S7, SoundTable}
+use Rattle.rules.specs.Windows.{rootAt, inWindow, windowRows}
+use Rattle.laws.specs.Alone.{InOrder}
 use Rattle.laws.proofs.Tests.{by-lt, count-in, count-mono, count-all}
 use Rattle.laws.proofs.Kept.{count-kept, step-kept, kept, kept-length, kept-row, kept-frames}
-use Rattle.laws.proofs.Tree.{TreeOf, OneRoot, Alike, alike, tree-kept, came}
+use Rattle.laws.proofs.Tree.{TreeOf, OneRoot, Alike, alike, tree-kept, came, tree-of}
 use Rattle.laws.proofs.Removal.{SoundRows}
-use Rattle.windows.specs.Windows.{rootAt, inWindow, windowRows, S7w}
 use Rattle.windows.proofs.Roots.{root-top, root-up, root-frame, root-one, root-along}
 use Rattle.windows.proofs.Wholes.{kept-all, kept-one, reach-kept}
 
@@ -23,7 +24,10 @@ use Rattle.windows.proofs.Wholes.{kept-all, kept-one, reach-kept}
 pub record WideRows (rows : List Row) (nextDoc nextFrame : ℕ) : Type 0 where
   pub tree : TreeOf rows nextDoc nextFrame
   pub s6 : S6 rows
-  pub s7 : S7w rows
+  pub s7 : S7 rows
+
+pub wide-rows : {room : ℕ} {t : Table} → SoundTable room t → t .nextDoc ≤ none → WideRows (t .rows) (t .nextDoc) (t .nextFrame)
+wide-rows s w = record { tree = tree-of s w; s6 = s .s6; s7 = s .s7 }
 
 pub window-is : (r : ℕ) (rows : List Row) → windowRows r rows ≡ kept (inWindow r rows) rows
 unfolding windowRows
@@ -37,6 +41,10 @@ module _ (rows : List Row) (r : ℕ) where
   pub window-row : (k : ℕ) → k < length rows → So (inWindow r rows k) → rowAt (windowRows r rows) (count (inWindow r rows) k) ≡ rowAt rows k
   unfolding windowRows
   window-row = kept-row (inWindow r rows) rows
+
+  -- It is of the same frame.
+  pub window-frame : (f k : ℕ) → k < length rows → So (inWindow r rows k) → inFrame (windowRows r rows) f (count (inWindow r rows) k) ≡ inFrame rows f k
+  window-frame f k l t = ap (λ x. eqb (x .frame) f) (window-row k l t)
 
   -- The place that a row comes to in its window.
   pub window-place : (k : ℕ) → k < length rows → So (inWindow r rows k) → count (inWindow r rows) k < length (windowRows r rows)
@@ -107,8 +115,8 @@ module _ (rows : List Row) {a b : ℕ} (tree : TreeOf rows a b) (r : ℕ) where
 -- S7 PER WINDOW
 
 -- S7 of each window's rows is S7 within each window.
-pub windows-S7 : (rows : List Row) {a b : ℕ} → TreeOf rows a b → S7w rows → (r : ℕ) → S7 (windowRows r rows)
-windows-S7 rows tree s7 r =
+pub windows-order : (rows : List Row) {a b : ℕ} → TreeOf rows a b → S7 rows → (r : ℕ) → InOrder (windowRows r rows)
+windows-order rows tree s7 r =
     record {
       later = λ i j l m u s t.
           let x = window-came rows tree r i l in
@@ -121,8 +129,8 @@ windows-S7 rows tree s7 r =
           omega (arith, count-in (inWindow r rows) (x .0) o (y .2), x .3, y .3);
     }
 
-pub windows-S7w : (rows : List Row) {a b : ℕ} → TreeOf rows a b → ((r : ℕ) → S7 (windowRows r rows)) → S7w rows
-windows-S7w rows tree each =
+pub windows-S7 : (rows : List Row) {a b : ℕ} → TreeOf rows a b → ((r : ℕ) → InOrder (windowRows r rows)) → S7 rows
+windows-S7 rows tree each =
     record {
       later = λ i j l m e u s t.
           let r = rootAt rows i in
@@ -142,20 +150,22 @@ module _ (rows : List Row) {a b : ℕ} (s : WideRows rows a b) where
         tree = window-tree rows (s .tree) r;
         root = window-one-root rows (s .tree) r;
         s6 = kept-one (inWindow r rows) rows (s .s6) (λ j k l m e h. window-whole rows (s .tree) r j k l m e);
-        s7 = windows-S7 rows (s .tree) (s .s7) r;
+        s7 = windows-order rows (s .tree) (s .s7) r;
       }
+
+-- Where all rows are of one window, its rows are all.
+pub window-every : (rows : List Row) (r : ℕ) → ((k : ℕ) → k < length rows → So (inWindow r rows k)) → windowRows r rows ≡ rows
+window-every rows r all = window-is r rows ∙ kept-all (inWindow r rows) rows (λ k m. count-all _ k (λ j n. all j (omega arith))) (count-all _ (length rows) all)
 
 -- WITH ONE ROOT FRAME THE WINDOW IS THE TABLE, and the wider soundness is the narrow one.
 module _ (rows : List Row) {a b : ℕ} (tree : TreeOf rows a b) (one : OneRoot rows) where
   pub window-all : (r i : ℕ) → i < length rows → So (inWindow r rows i) → windowRows r rows ≡ rows
-  window-all r i l t =
-      let all : (k : ℕ) → k < length rows → So (inWindow r rows k) = λ k m. rw (root-one rows tree one k i m l) t in
-      window-is r rows ∙ kept-all (inWindow r rows) rows (λ k m. count-all _ k (λ j n. all j (omega arith))) (count-all _ (length rows) all)
+  window-all r i l t = window-every rows r (λ k m. rw (root-one rows tree one k i m l) t)
 
-  pub narrow-S7 : S7w rows → S7 rows
+  pub narrow-S7 : S7 rows → InOrder rows
   narrow-S7 s7 = record { later = λ i j l m. s7 .later i j l m (root-one rows tree one i j l m) }
 
-pub wide-S7 : (rows : List Row) → S7 rows → S7w rows
+pub wide-S7 : (rows : List Row) → InOrder rows → S7 rows
 wide-S7 rows s7 = record { later = λ i j l m e. s7 .later i j l m }
 
 pub narrow-sound : (rows : List Row) {a b : ℕ} → WideRows rows a b → OneRoot rows → SoundRows rows a b

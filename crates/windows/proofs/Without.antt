@@ -11,13 +11,14 @@ use borrow.Author.Tests.{eqb-true, ne-eqb}
 use Rattle.rules.specs.Below.{count}
 use Rattle.rules.specs.Rows.{Row, rowAt, docAt, parentAt}
 use Rattle.rules.specs.Steps.{upcoming}
-use Rattle.rules.specs.Moves.{gone, without, cleared}
-use Rattle.rules.specs.Sound.{S6, S7}
+use Rattle.rules.specs.Moves.{gone, without, upcomingIn, cleared}
+use Rattle.rules.specs.Sound.{S6}
+use Rattle.rules.specs.Windows.{rootAt, inWindow, windowRows}
+use Rattle.laws.specs.Alone.{InOrder, clearedAll}
 use Rattle.laws.proofs.Tests.{clash, off, count-all}
 use Rattle.laws.proofs.Kept.{kept, kept-row}
 use Rattle.laws.proofs.Tree.{TreeOf, Alike, alike, tree-kept}
 use Rattle.laws.proofs.Removal.{stays, stays-up, gone-later, cleared-removed}
-use Rattle.windows.specs.Windows.{rootAt, inWindow, windowRows, upcomingIn, clearedIn}
 use Rattle.windows.proofs.Along.{along}
 use Rattle.windows.proofs.Roots.{root-along}
 use Rattle.windows.proofs.Wholes.{gather-same, kept-kept, kept-all}
@@ -76,15 +77,15 @@ without-tree rows tree q = tree-kept (stays q rows) rows tree (stays-up q rows t
 
 -- NAVIGATE'S REMOVAL
 module _ (rows : List Row) {a b : ℕ} (s : WideRows rows a b) (r : ℕ) where
-  pub cleared-here : windowRows r (clearedIn r rows) ≡ cleared (windowRows r rows)
+  pub cleared-here : windowRows r (cleared r rows) ≡ clearedAll (windowRows r rows)
   cleared-here =
       window-without rows (s .tree) r (upcomingIn r rows) (upcoming (windowRows r rows)) (λ k l t. rw t (window-upcoming rows (s .tree) r k l t))
 
-  pub cleared-there : (v : ℕ) → v ≢ r → windowRows v (clearedIn r rows) ≡ windowRows v rows
+  pub cleared-there : (v : ℕ) → v ≢ r → windowRows v (cleared r rows) ≡ windowRows v rows
   cleared-there v ne =
       without-there rows (s .tree) v (upcomingIn r rows) (λ k l t. rw (ne-eqb (rootAt rows k) r (λ e. ne (sym (eqb-true _ _ t) ∙ e))) refl)
 
-  pub cleared-sound : WideRows (clearedIn r rows) a b
+  pub cleared-sound : WideRows (cleared r rows) a b
   cleared-sound =
       let c = cleared-removed (windowRows r rows) (window-sound rows s r) .sound in
-      one-window rows (clearedIn r rows) r s (without-tree rows (s .tree) (upcomingIn r rows)) (subst S6 (sym cleared-here) (c .s6)) (subst S7 (sym cleared-here) (c .s7)) cleared-there
+      one-window rows (cleared r rows) r s (without-tree rows (s .tree) (upcomingIn r rows)) (subst S6 (sym cleared-here) (c .s6)) (subst InOrder (sym cleared-here) (c .s7)) cleared-there

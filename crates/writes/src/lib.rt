@@ -1,11 +1,11 @@
-// Writing the record: a row, the three words before the rows, a row's document or flag, zeros. Each leaves every other word as it was.
+// Writing the record: a row, the three words before the rows, a row's document or flag, zeros, words copied. Each leaves every other word as it was.
 use base::DocNo;
 use base::FrameNo;
 use base::RowPlace;
 ghost use mathlib.Core.Path.{_≡_};
 ghost use mathlib.Core.List.{[], _∷_};
 ghost use Prim.Native.Nat.{_+_, _-_, _*_, _<_, _≤_};
-ghost use lib.ListN.{length, replicate, set};
+ghost use lib.ListN.{length, replicate, set, take};
 ghost use Rattle.rules.specs.Words.{capacity, put};
 
 // Writes a row.
@@ -69,5 +69,17 @@ pub fn store(list: &mut [u32], k: usize, v: u32)
 {
     if k < list.len() {
         list[k] = v;
+    }
+}
+
+// Copies the words before a place.
+pub fn copy(words: &mut [u32], from: &[u32], end: usize)
+    requires { ⌜ (end ≤ length (now words)) × (end ≤ length (now from)) ⌝ }
+    ensures { λ _. ⌜ now (words .exit) ≡ put (now (words .entry)) 0 (take end (now (from .entry))) ⌝ }
+{
+    let mut k = 0;
+    while k < end {
+        words[k] = from[k];
+        k += 1;
     }
 }

@@ -52,13 +52,12 @@ use Rattle.base.specs.declared.FrameNo.{FrameNo}
 use Rattle.base.proofs.FrameNo as F
 use Rattle.base.proofs.FrameNo.Laws as F′
 use Rattle.rules.specs.Words.{put}
-use Rattle.traverses.specs.declared.Trip.{Trip}
-use Rattle.traverses.specs.Answers.{tripText}
-use Rattle.traverses.proofs.Trip as P
-use Rattle.traverses.proofs.Trip.Laws as P′
-use Rattle.changes.specs.Changes.{plain, Awaits, Follows, Fits}
+use Rattle.changes.specs.Changes.{plain, routeText, AwaitsOn, FollowsOn, Fits}
 use Rattle.changes.specs.declared.ChangeRow.{ChangeRow}
+use Rattle.changes.specs.declared.Route.{Route}
 use Rattle.changes.proofs.Filling.{Turn, filled-starts, filled-awaits, filled-more, filled-ends}
+use Rattle.changes.proofs.Route as P
+use Rattle.changes.proofs.Route.Laws as P′
 use Rattle.changes.proofs.ChangeRow as T
 use Rattle.changes.proofs.ChangeRow.Laws as T′
 use Rattle.changes.proofs.next_row as next-row
@@ -75,12 +74,12 @@ use Rattle.changes.proofs.fill.Statement as stated
 use Rattle.changes.proofs.fill.Code as code
 use Rattle.changes.proofs.fill.Code.Mir as piece
 
--- the types of a change row, a trip and a frame number
+-- the types of a change row, a route and a frame number
 abbrev R : RattleType
 R = T.the-row
 
-abbrev Tr : RattleType
-Tr = P.the-row
+abbrev Ro : RattleType
+Ro = P.the-row
 
 abbrev Fr : RattleType
 Fr = F.the-row
@@ -96,7 +95,7 @@ is-number : (f : ℕ) → f < 2 ^ 32 → Is Fr (numbered f) (fv f ∷ [])
 is-number f l = LL.owes F.the-type F′.the-laws (numbered f) ((refl, l), tt)
 
 abbrev stayed : Stays (fill.ended .signature .params) (fill.ended .kept)
-stayed = (stay-slice (0 ∷ []) tt (plainly (λ _. R)), (stay-none-slice (1 ∷ []) tt (plainly (λ _. u32)) yes, (stay-none (λ _. Tr) yes, tt)))
+stayed = (stay-slice (0 ∷ []) tt (plainly (λ _. R)), (stay-none-slice (1 ∷ []) tt (plainly (λ _. u32)) yes, (stay-none (λ _. Ro) yes, tt)))
 
 -- the contracts that the proof cites
 abbrev NextRow : {M : Type 1} (𝓤 : URA M) (H : Heap 𝓤) (A : Atoms 𝓤) (mem : Memory → SProp 𝓤) (run : Routine → Fun 𝓤) → Contract 𝓤
@@ -105,28 +104,28 @@ NextRow 𝓤 H A mem run = tripleOf 𝓤 H A next-row.signature (next-row.spec �
 abbrev Past : {M : Type 1} (𝓤 : URA M) (H : Heap 𝓤) (A : Atoms 𝓤) (mem : Memory → SProp 𝓤) (run : Routine → Fun 𝓤) → Contract 𝓤
 Past 𝓤 H A mem run = tripleOf 𝓤 H A past.signature (past.spec 𝓤 H A mem run)
 
-module _ {M : Type 1} (𝓤 : URA M) (H : Heap 𝓤) (A : Atoms 𝓤) (W : Given 𝓤 H A) (mem : Memory → SProp 𝓤) (run : Routine → Fun 𝓤) (κ κ′ : Lft) (q q′ : Share) (b o : ℕ) (γ : GName) (ys : List ChangeRow) (y : RefT (List ℕ)) (trip : Trip)
-    (room : Room R (length ys)) (room′ : Room u32 (length (y .now))) (is-trip : Is Tr trip (LL.vals P.the-type P′.the-laws trip)) (fit : Fits (y .now) trip (length ys)) where
+module _ {M : Type 1} (𝓤 : URA M) (H : Heap 𝓤) (A : Atoms 𝓤) (W : Given 𝓤 H A) (mem : Memory → SProp 𝓤) (run : Routine → Fun 𝓤) (κ κ′ : Lft) (q q′ : Share) (b o : ℕ) (γ : GName) (ys : List ChangeRow) (y : RefT (List ℕ)) (route : Route)
+    (room : Room R (length ys)) (room′ : Room u32 (length (y .now))) (is-route : Is Ro route (LL.vals P.the-type P′.the-laws route)) (fit : Fits (y .now) route (length ys)) where
   abbrev ws : List ℕ
   ws = y .now
 
   abbrev n : ℕ
-  n = trip .count
+  n = route .count
 
   n-fits : n < 2 ^ 64
-  n-fits = LL.owed P.the-type P′.the-laws trip _ is-trip .1 .1 .1 .0 .1
+  n-fits = LL.owed P.the-type P′.the-laws route _ is-route .1 .1 .1 .0 .1
 
-  first-fits : trip .first .0 < 2 ^ 32
-  first-fits = LL.owed F.the-type F′.the-laws (trip .first) _ (LL.owed P.the-type P′.the-laws trip _ is-trip .0) .0 .1
+  first-fits : route .first .0 < 2 ^ 32
+  first-fits = LL.owed F.the-type F′.the-laws (route .first) _ (LL.owed P.the-type P′.the-laws route _ is-route .0) .0 .1
 
   abbrev x : List ChangeRow → RefT (List ChangeRow)
   x l = record { ptr = (b, o); name = γ; now = l }
 
   abbrev Arg : Type 0
-  Arg = RefT (List ChangeRow) × (RefT (List ℕ) × (Trip × Unit {0}))
+  Arg = RefT (List ChangeRow) × (RefT (List ℕ) × (Route × Unit {0}))
 
   abbrev a : Arg
-  a = (x ys, (y, (trip, tt)))
+  a = (x ys, (y, (route, tt)))
 
   -- the machine values
   abbrev s : Val
@@ -136,10 +135,10 @@ module _ {M : Type 1} (𝓤 : URA M) (H : Heap 𝓤) (A : Atoms 𝓤) (W : Given
   s′ = sliceVal (y .ptr) (length ws)
 
   abbrev tv : Val
-  tv = LL.val P.the-type P′.the-laws trip
+  tv = LL.val P.the-type P′.the-laws route
 
   tv-typed : Holds (hasTy P′.mir tv) × WT tv
-  tv-typed = LL.lawful P.the-type P′.the-laws 𝓤 H A W .typed trip _ is-trip .0
+  tv-typed = LL.lawful P.the-type P′.the-laws 𝓤 H A W .typed route _ is-route .0
 
   abbrev vals : List Val × (List Val × (List Val × Unit {0}))
   vals = (s ∷ [], (s′ ∷ [], (tv ∷ [], tt)))
@@ -151,7 +150,7 @@ module _ {M : Type 1} (𝓤 : URA M) (H : Heap 𝓤) (A : Atoms 𝓤) (W : Given
   abbrev Own : Fml
   Own = ShrSlice (named 1) κ′ u32 .own y (s′ ∷ [])
 
-  exits : (zs : List ChangeRow) → length zs ≡ length ys → plain zs ≡ put (plain ys) 0 (tripText ws trip)
+  exits : (zs : List ChangeRow) → length zs ≡ length ys → plain zs ≡ put (plain ys) 0 (routeText ws route)
       → ent 𝓤 (⋆ 𝓤 H A (‵ (fobs γ (codedHoleys R .code (heres R zs))) ∷ ‵ (fbor κ (Held R (length zs) b o γ)) ∷ ‵ (flft κ q) ∷ ‵ (flft κ′ q′) ∷ ‵ Own ∷ [])) (Post vunit)
   exits zs l e =
       qed W (‵ (fobs γ (codedHoleys R .code (heres R zs))) ∷ ‵ (fbor κ (Held R (length zs) b o γ)) ∷ ‵ (flft κ q) ∷ ‵ (flft κ′ q′) ∷ ‵ Own ∷ []) ∵
@@ -159,21 +158,21 @@ module _ {M : Type 1} (𝓤 : URA M) (H : Heap 𝓤) (A : Atoms 𝓤) (W : Given
       nothing ! $ move ! (4 ∷ 0 ∷ []) $ join ! $ move ! (3 ∷ 0 ∷ []) $ join ! $ frame ! $
       -- [obs; the borrow; what words owns]
       fjoin ! $ pureI ! (at-slice R (x zs) (s ∷ [])) (tt, (tt, tt)) (ap (λ (m : ℕ). sliceVal (b, o) m ∷ []) (sym l), subst (Room R) (sym l) room) $ fjoin ! $
-      nothing ! $ owned ! Tr (Is Tr) (LL.makes P.the-type P′.the-plain 𝓤 H A) trip _ is-trip $ fjoin ! $ move ! (2 ∷ 0 ∷ []) $ fjoin ! $ move ! (1 ∷ 0 ∷ []) $ fjoin ! $
+      nothing ! $ owned ! Ro (Is Ro) (LL.makes P.the-type P′.the-plain 𝓤 H A) route _ is-route $ fjoin ! $ move ! (2 ∷ 0 ∷ []) $ fjoin ! $ move ! (1 ∷ 0 ∷ []) $ fjoin ! $
       feqI ! (List Val) (vunit ∷ []) (vunit ∷ []) refl $ move ! (1 ∷ 0 ∷ []) $ done !
 
   -- ---- the call of `next_row` from a frame number on
   abbrev to-row : ℕ → NextRow 𝓤 H A mem run .Ghost
-  to-row f = (((κ′, tt), (q′, tt), tt, (y, (trip, (numbered f, tt))), (s′ ∷ [], (tv ∷ [], (fv f ∷ [], tt)))), tt)
+  to-row f = (((κ′, tt), (q′, tt), tt, (y, (route, (numbered f, tt))), (s′ ∷ [], (tv ∷ [], (fv f ∷ [], tt)))), tt)
 
-  goes-row : (f : ℕ) → f < 2 ^ 32 → Awaits ws trip f → ent 𝓤 (sep 𝓤 (A .lft κ′ q′) (sem 𝓤 H A Own)) (NextRow 𝓤 H A mem run .pre (to-row f))
+  goes-row : (f : ℕ) → f < 2 ^ 32 → AwaitsOn ws route f → ent 𝓤 (sep 𝓤 (A .lft κ′ q′) (sem 𝓤 H A Own)) (NextRow 𝓤 H A mem run .pre (to-row f))
   goes-row f f-fits h =
       qed W (‵ (flft κ′ q′) ∷ ‵ Own ∷ []) ∵ says ! h $ nothing ! $ move ! (1 ∷ 0 ∷ []) $ join ! $ frame ! $
       nothing ! $ owned ! Fr (Is Fr) (LL.makes F.the-type F′.the-plain 𝓤 H A) (numbered f) _ (is-number f f-fits) $ fjoin ! $
-      owned ! Tr (Is Tr) (LL.makes P.the-type P′.the-plain 𝓤 H A) trip _ is-trip $ fjoin ! $ move ! (1 ∷ 0 ∷ []) $ fjoin ! $ done !
+      owned ! Ro (Is Ro) (LL.makes P.the-type P′.the-plain 𝓤 H A) route _ is-route $ fjoin ! $ move ! (1 ∷ 0 ∷ []) $ fjoin ! $ done !
 
-  said-row : (f : ℕ) (r : ChangeRow) → ent 𝓤 (ensured 𝓤 H A next-row.ended (next-row.clauses 𝓤 H A mem run) (κ′, tt) (y, (trip, (numbered f, tt))) tt r) (fact 𝓤 (Follows ws trip f r))
-  said-row f r = exE 𝓤 _ (λ us. snd∗ 𝓤 (sem 𝓤 H A (lasts next-row.ended (κ′, tt) (y, (trip, (numbered f, tt))) us)) (fact 𝓤 (Follows ws trip f r)))
+  said-row : (f : ℕ) (r : ChangeRow) → ent 𝓤 (ensured 𝓤 H A next-row.ended (next-row.clauses 𝓤 H A mem run) (κ′, tt) (y, (route, (numbered f, tt))) tt r) (fact 𝓤 (FollowsOn ws route f r))
+  said-row f r = exE 𝓤 _ (λ us. snd∗ 𝓤 (sem 𝓤 H A (lasts next-row.ended (κ′, tt) (y, (route, (numbered f, tt))) us)) (fact 𝓤 (FollowsOn ws route f r)))
 
   -- ---- the call of `past` of a change row
   abbrev to-past : ChangeRow → Past 𝓤 H A mem run .Ghost
@@ -187,7 +186,7 @@ module _ {M : Type 1} (𝓤 : URA M) (H : Heap 𝓤) (A : Atoms 𝓤) (W : Given
 
   -- ---- the loop
   abbrev Upto : Type 0
-  Upto = Turn ws trip ys
+  Upto = Turn ws route ys
 
   abbrev Nearer : Upto → Upto → Type 0
   Nearer j i = n - j .at < n - i .at
@@ -197,7 +196,7 @@ module _ {M : Type 1} (𝓤 : URA M) (H : Heap 𝓤) (A : Atoms 𝓤) (W : Given
 
   -- before the first turn
   abbrev begin : Upto
-  begin = record { at = 0; from = trip .first .0; rows = ys; filled = filled-starts ws trip ys fit; fits = first-fits }
+  begin = record { at = 0; from = route .first .0; rows = ys; filled = filled-starts ws route ys fit; fits = first-fits }
 
   module _ (𝓣 : Tables 𝓤 H) (fm : FmC 𝓤 H (W .laws) (𝓣 .C)) (known : Triple 𝓤 (𝓣 .C #next-row) (NextRow 𝓤 H A mem run)) (known′ : Triple 𝓤 (𝓣 .C #past) (Past 𝓤 H A mem run)) (l₀ l₁ l₂ l₃ l₄ l₅ l₆ l₇ l₈ l₉ l₁₀ : ℕ) where
     abbrev C : Calls 𝓤 H
@@ -239,10 +238,10 @@ module _ {M : Type 1} (𝓤 : URA M) (H : Heap 𝓤) (A : Atoms 𝓤) (W : Given
         rewrite ! 10 (λ (z : Bool). ‵ (fat fullShare tyBool l₈ 0 (vbool z))) t refl $ stays ! (load ! (from ! (stop !)) (look ! 10 refl)) $
         -- the words' reference is Copy: one copy goes to the callee
         move ! (5 ∷ []) $ use1 W (‵ Own ⊛ ‵ Own) (shr-slice-copy 𝓤 H A W (named 1) κ′ u32 .twice y (s′ ∷ [])) $ split ! $ move ! (6 ∷ 0 ∷ []) $
-        use2 W (raw (NextRow 𝓤 H A mem run .pre (to-row (i .from)))) (goes-row (i .from) (i .fits) (filled-awaits ws trip ys fit (i .rows) (i .at) (i .from) (i .filled) less)) $
+        use2 W (raw (NextRow 𝓤 H A mem run .pre (to-row (i .from)))) (goes-row (i .from) (i .fits) (filled-awaits ws route ys fit (i .rows) (i .at) (i .from) (i .filled) less)) $
         calls-at ! fm (NextRow 𝓤 H A mem run) known (to-row (i .from)) (and-then ! (load ! (from ! (stop !)) (look ! 22 refl)) (and-then ! (load ! (from ! (stop !)) (look ! 20 refl)) (and-then ! (load ! (from ! (stop !)) (look ! 16 refl)) (no-more !)))) (λ u.
-        use1 W (later (some (λ (r : ChangeRow). ((‵ (flft κ′ q′) ⊛ ‵ ftrue) ⊛ ‵ (R .own r (u ∷ []))) ⊛ raw (ensured 𝓤 H A next-row.ended (next-row.clauses 𝓤 H A mem run) (κ′, tt) (y, (trip, (numbered (i .from), tt))) tt r)))) (id⊢ 𝓤 _) $ await ! tt $ pick ! (λ r.
-        split ! $ move ! (1 ∷ []) $ use1 W (raw (fact 𝓤 (Follows ws trip (i .from) r))) (said-row (i .from) r) $ heard ! (Follows ws trip (i .from) r) (λ e. split ! $ move ! (1 ∷ []) $
+        use1 W (later (some (λ (r : ChangeRow). ((‵ (flft κ′ q′) ⊛ ‵ ftrue) ⊛ ‵ (R .own r (u ∷ []))) ⊛ raw (ensured 𝓤 H A next-row.ended (next-row.clauses 𝓤 H A mem run) (κ′, tt) (y, (route, (numbered (i .from), tt))) tt r)))) (id⊢ 𝓤 _) $ await ! tt $ pick ! (λ r.
+        split ! $ move ! (1 ∷ []) $ use1 W (raw (fact 𝓤 (FollowsOn ws route (i .from) r))) (said-row (i .from) r) $ heard ! (FollowsOn ws route (i .from) r) (λ e. split ! $ move ! (1 ∷ []) $
         -- [the row; the token; what words owns; the elements; the open borrow; obs; auth; _10; …; _9; …; _8; …; _7; …; _6; …; _5; …; _4; …; _3; …; _2; …; _1; …; room for _0; …]
         peeks ! R (Is R) (shows 𝓤 H A R) r (u ∷ []) (λ is.
         land ! (from ! (stop !)) (init ! 13 refl (LL.lawful T.the-type T′.the-laws 𝓤 H A W .typed r _ is .0)) $ drop ! $
@@ -283,8 +282,8 @@ module _ {M : Type 1} (𝓤 : URA M) (H : Heap 𝓤) (A : Atoms 𝓤) (W : Given
         made : (r : ChangeRow) (u : Val) → Is R r (u ∷ []) → Is R r (LL.vals T.the-type T′.the-laws r)
         made r u is = LL.owes T.the-type T′.the-laws r (LL.owed T.the-type T′.the-laws r _ is)
 
-        next : (r : ChangeRow) (g : FrameNo) → Follows ws trip (i .from) r → g .0 ≡ r .frame .0 + 1 → g .0 < 2 ^ 32 → Upto
-        next r g e c l = record { at = i .at + 1; from = g .0; rows = set (i .rows) (i .at) r; filled = filled-more ws trip ys fit (i .rows) (i .at) (i .from) (i .filled) r less e (g .0) c; fits = l }
+        next : (r : ChangeRow) (g : FrameNo) → FollowsOn ws route (i .from) r → g .0 ≡ r .frame .0 + 1 → g .0 < 2 ^ 32 → Upto
+        next r g e c l = record { at = i .at + 1; from = g .0; rows = set (i .rows) (i .at) r; filled = filled-more ws route ys fit (i .rows) (i .at) (i .from) (i .filled) r less e (g .0) c; fits = l }
 
     -- the turn that leaves the loop, and the rest of the body
     ends : (i : Upto) → ltb (i .at) n ≡ false → Sq W (At i) (runs C Λ En piece.turn-1 (anyQ (Turned i)))
@@ -298,7 +297,7 @@ module _ {M : Type 1} (𝓤 : URA M) (H : Heap 𝓤) (A : Atoms 𝓤) (W : Given
         returns ! (look ! 25 refl) $ forget ! 9 refl $ forget ! 13 refl $ forget ! 15 refl $ forget ! 17 refl $ forget ! 19 refl $ forget ! 21 refl $ forget ! 23 refl $ forget ! 25 refl $
         move ! (25 ∷ 26 ∷ []) $ free1 ! $ move ! (23 ∷ 24 ∷ []) $ free1 ! $ move ! (21 ∷ 22 ∷ []) $ free1 ! $ move ! (19 ∷ 20 ∷ []) $ free1 ! $ move ! (17 ∷ 18 ∷ []) $ free1 ! $ move ! (15 ∷ 16 ∷ []) $ free1 ! $
         move ! (13 ∷ 14 ∷ []) $ free1 ! $ move ! (11 ∷ 12 ∷ []) $ free1 ! $ move ! (9 ∷ 10 ∷ []) $ free1 ! $ move ! (7 ∷ 8 ∷ []) $ free1 ! $ move ! (5 ∷ 6 ∷ []) $ free1 ! $ free0 ! $
-        keep ! (0 ∷ 1 ∷ 2 ∷ 3 ∷ 4 ∷ []) $ by ! (exits (i .rows) (i .filled .same-length) (filled-ends ws trip ys fit (i .rows) (i .at) (i .from) (i .filled) (ltb-false (i .at) n t)))
+        keep ! (0 ∷ 1 ∷ 2 ∷ 3 ∷ 4 ∷ []) $ by ! (exits (i .rows) (i .filled .same-length) (filled-ends ws route ys fit (i .rows) (i .at) (i .from) (i .filled) (ltb-false (i .at) n t)))
 
     turn-by : (i : Upto) (t : Bool) → ltb (i .at) n ≡ t → Sq W (At i) (runs C Λ En piece.turn-1 (anyQ (Turned i)))
     turn-by i true e = more i e
@@ -313,13 +312,13 @@ module _ {M : Type 1} (𝓤 : URA M) (H : Heap 𝓤) (A : Atoms 𝓤) (W : Given
   walk : (𝓣 : Tables 𝓤 H) → FmC 𝓤 H (W .laws) (𝓣 .C) → Triple 𝓤 (𝓣 .C #next-row) (NextRow 𝓤 H A mem run) → Triple 𝓤 (𝓣 .C #past) (Past 𝓤 H A mem run)
       → ent 𝓤 (onEntry 𝓤 H A fill.signature (κ, (κ′, tt)) (q, (q′, tt)) a vals) (WpFn 𝓤 H (𝓣 .C) (𝓣 .Λ) code.function (s ∷ s′ ∷ tv ∷ []) Post)
   walk 𝓣 fm known known′ =
-      qed W ((‵ (flft κ q) ⊛ ‵ (flft κ′ q′) ⊛ ‵ ftrue) ∷ ‵ (owns (MutSlice (named 0) κ R ∷ ShrSlice (named 1) κ′ u32 ∷ Tr ∷ []) a vals) ∷ []) ∵ enter ! (𝓣 .C) (𝓣 .Λ) code.function (s ∷ s′ ∷ tv ∷ []) _ $
+      qed W ((‵ (flft κ q) ⊛ ‵ (flft κ′ q′) ⊛ ‵ ftrue) ∷ ‵ (owns (MutSlice (named 0) κ R ∷ ShrSlice (named 1) κ′ u32 ∷ Ro ∷ []) a vals) ∷ []) ∵ enter ! (𝓣 .C) (𝓣 .Λ) code.function (s ∷ s′ ∷ tv ∷ []) _ $
       alloc1 ! (λ l₀. alloc1 ! (λ l₁. alloc1 ! (λ l₂. alloc1 ! (λ l₃. alloc1 ! (λ l₄. alloc1 ! (λ l₅. alloc1 ! (λ l₆. alloc1 ! (λ l₇. alloc1 ! (λ l₈. alloc1 ! (λ l₉. alloc1 ! (λ l₁₀. alloc0 ! $ params1 ! $
       pass1 ! (init ! 18 refl (tt, (tt, (record { fits = room .0 }, tt)))) $ pass1 ! (init ! 16 refl (tt, (tt, (record { fits = room′ .0 }, tt)))) $ pass1 ! (init ! 14 refl tv-typed) $ pass0 ! $
       assigns ! (of-opd ! (load ! (from ! (fld ! refl (stop !))) (look-in ! 14 (sub ! 3 refl (whole !))))) (from ! (stop !)) (init ! 12 refl (tt, record { fits = n-fits })) $
-      assigns ! (of-opd ! (load ! (from ! (fld ! refl (stop !))) (look-in ! 14 (sub ! 0 refl (whole !))))) (from ! (stop !)) (init ! 10 refl (LL.lawful F.the-type F′.the-laws 𝓤 H A W .typed (trip .first) _ (is-number (trip .first .0) first-fits) .0)) $
+      assigns ! (of-opd ! (load ! (from ! (fld ! refl (stop !))) (look-in ! 14 (sub ! 0 refl (whole !))))) (from ! (stop !)) (init ! 10 refl (LL.lawful F.the-type F′.the-laws 𝓤 H A W .typed (route .first) _ (is-number (route .first .0) first-fits) .0)) $
       assigns ! (of-opd ! (lit ! tt)) (from ! (stop !)) (init ! 8 refl (tt, record { fits = lit< tt })) $
-      -- [_10; …; _9; …; _8; …; _7; …; _6; …; _5; …; _4; …; _3; …; _2; …; _1; …; room for _0; …; the tokens; what rows, words and the trip own]
+      -- [_10; …; _9; …; _8; …; _7; …; _6; …; _5; …; _4; …; _3; …; _2; …; _1; …; room for _0; …; the tokens; what rows, words and the route own]
       move ! (23 ∷ []) $ fsplit ! $ fsplit ! $ drop ! $ fsplit ! $ move ! (2 ∷ []) $ fsplit ! $ move ! (1 ∷ []) $ drop ! $ move ! (25 ∷ []) $ split ! $ move ! (1 ∷ []) $ split ! $
       -- [the words' token; true; the rows' token; what words owns; obs; the borrow; _10; …]
       move ! (4 ∷ 5 ∷ 2 ∷ []) $ opens-slice ! tt R ys b o $
@@ -334,7 +333,7 @@ module _ {M : Type 1} (𝓤 : URA M) (H : Heap 𝓤) (A : Atoms 𝓤) (W : Given
       walk 𝓤 H A W mem run (κs .0) (κs .1 .0) (qs .0) (qs .1 .0) (a .0 .ptr .0) (a .0 .ptr .1) (a .0 .name) (a .0 .now) (a .1 .0) (a .1 .1 .0) (are .0 .0 .1) (are .1 .0 .0 .1) (are .1 .1 .0) h 𝓣 (fmOf 𝓤 H (W .laws) 𝓣) known known′))
 
   fill-meets : Meets 𝓤 H A fill.signature (WpFn 𝓤 H (𝓣 .C) (𝓣 .Λ) code.function) (fill.spec 𝓤 H A mem run)
-  fill-meets = walk-meets 𝓤 H A fill.ended stayed W (goes-slice 𝓤 H A W 2 0 tt (plainly (λ _. R)), (goes-none-slice 𝓤 H A W 2 (1 ∷ []) tt (plainly (λ _. u32)) yes, (goes-none 𝓤 H A W 2 (λ _. Tr) yes (λ κs x f. refl), tt)))
+  fill-meets = walk-meets 𝓤 H A fill.ended stayed W (goes-slice 𝓤 H A W 2 0 tt (plainly (λ _. R)), (goes-none-slice 𝓤 H A W 2 (1 ∷ []) tt (plainly (λ _. u32)) yes, (goes-none 𝓤 H A W 2 (λ _. Ro) yes (λ κs x f. refl), tt)))
       (fill.clauses 𝓤 H A mem run) (WpFn 𝓤 H (𝓣 .C) (𝓣 .Λ) code.function) (WpFn-mono 𝓤 H (W .laws) 𝓣 code.function) fill-walks
 
 pub fill-spec : {M : Type 1} → stated.statement M

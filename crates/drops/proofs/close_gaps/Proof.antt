@@ -11,7 +11,7 @@ use Rattle.laws.proofs.Tree.{tree-of}
 use Rattle.sound.proofs.Checks.{examined-sound, examined-fits}
 use Rattle.packs.proofs.Over.{over-size}
 use Rattle.packs.proofs.Known.{Turned, turn-row, turn-asks, turn-done, turn-end}
-use Rattle.drops.proofs.Gaps.{turn-start}
+use Rattle.packs.proofs.Starts.{turn-start}
 use Rattle.drops.proofs.close_gaps.Statement.{statement}
 use Rattle.drops.proofs.close_gaps.Tie as tie
 
@@ -38,7 +38,8 @@ close-gaps-spec =
     let c3 = c1 .before .before in
     let c5 = c3 .before .before in
     let c8 = c5 .before .before .before in
-    (omega (arith, c8 .pre .3, c5 .row-count .ensures), turn-start (now (c8 .args .words)) (c8 .pre .0) (c8 .pre .1) _ _ (c8 .pre .2) (c8 .pre .3) _ _ (c3 .parent .ensures) (c1 .document .ensures)))
+    let w = now (c8 .args .words) in
+    (omega (arith, c8 .pre .3, c5 .row-count .ensures), turn-start (inFrame (rowsOf w) (c8 .args .frame .0)) w (tree-of (examined-sound w (c8 .pre .0) .table) (c8 .pre .1)) (examined-fits w (c8 .pre .0)) _ (c8 .pre .2) (c8 .pre .3) _ _ (c3 .parent .ensures) (c1 .document .ensures)))
     (λ c κs. let c2 = c .before .before in
     let c8 = c2 .before .before .before .before .before .before in
     let c11 = c8 .before .before .before in

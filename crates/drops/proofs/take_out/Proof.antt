@@ -1,14 +1,16 @@
 -- `drops::take_out` meets its contract. Assumes nothing.
-use Prim.Native.Nat.{_≤_}
+use Prim.Native.Nat.{_-_, _≤_}
+use mathlib.Core.Path.{ap₂}
 use native.Mathlib.Omega.{arith}
 use borrow.Author.Needs.{needs}
 use denote.Ref.{now}
-use Rattle.rules.specs.Rows.{none}
-use Rattle.rules.specs.Words.{tableOf}
+use Rattle.rules.specs.Rows.{none, inFrame}
+use Rattle.rules.specs.Words.{tableOf, rowsOf}
+use Rattle.sound.proofs.Checks.{examined-sound, examined-long}
 use Rattle.laws.proofs.Words.{next-doc-in}
 use Rattle.laws.proofs.Accepted.{drop-relies}
 use Rattle.drops.proofs.Judges.{frame-within}
-use Rattle.drops.proofs.Ended.{few, end-asks, ended-out, went}
+use Rattle.packs.proofs.Ends.{few, end-asks, ended-out}
 use Rattle.drops.proofs.take_out.Statement.{statement}
 use Rattle.drops.proofs.take_out.Tie as tie
 
@@ -26,15 +28,16 @@ take-out-spec =
     (λ c κs. let c3 = c .before .before .before in
     let c9 = c3 .before .before .before .before .before .before in
     let c12 = c9 .before .before .before in
-    end-asks (now (c12 .args .words)) (c12 .pre .0) _ _ _ _ (c3 .close-gaps .ensures) (c9 .row-count .ensures))
+    let w = now (c12 .args .words) in
+    end-asks (inFrame (rowsOf w) (c12 .args .frame .0)) w (examined-sound w (c12 .pre .0)) (examined-long w (c12 .pre .0)) _ _ _ (c3 .close-gaps .ensures) (c9 .row-count .ensures))
     (λ c. let c6 = c .before .before .before .before .before .before in
     let c12 = c6 .before .before .before .before .before .before in
     let c15 = c12 .before .before .before in
-    omega (arith, few (now (c15 .args .words)) (c15 .pre .0) _ _ _ _ (c6 .close-gaps .ensures) (c12 .row-count .ensures)))
+    omega (arith, few (inFrame (rowsOf (now (c15 .args .words))) (c15 .args .frame .0)) (now (c15 .args .words)) (examined-sound _ (c15 .pre .0)) (examined-long _ (c15 .pre .0)) _ _ _ (c6 .close-gaps .ensures) (c12 .row-count .ensures)))
     (λ c. let c6 = c .before .before .before .before .before .before in
     let c12 = c6 .before .before .before .before .before .before in
     let c15 = c12 .before .before .before in
-    record { fits = omega (arith, end-asks (now (c15 .args .words)) (c15 .pre .0) _ _ _ _ (c6 .close-gaps .ensures) (c12 .row-count .ensures)) })
+    record { fits = omega (arith, end-asks (inFrame (rowsOf (now (c15 .args .words))) (c15 .args .frame .0)) (now (c15 .args .words)) (examined-sound _ (c15 .pre .0)) (examined-long _ (c15 .pre .0)) _ _ _ (c6 .close-gaps .ensures) (c12 .row-count .ensures)) })
     (λ c. search needs)
     (λ c. let c2 = c .before .before in
     let c6 = c2 .before .before .before .before in
@@ -42,6 +45,6 @@ take-out-spec =
     let c10 = c8 .before .before in
     let c12 = c10 .before .before in
     let c15 = c12 .before .before .before in (
-      went (now (c15 .args .words)) (c15 .pre .0) _ _ _ _ (c6 .close-gaps .ensures) (c12 .row-count .ensures),
-      ended-out (now (c15 .args .words)) (c15 .pre .0) _ _ _ _ (c6 .close-gaps .ensures) (c12 .row-count .ensures) _ _ _ (c10 .next-document .ensures) (c8 .next-frame-number .ensures) (c2 .end-rows .ensures),
+      ap₂ (λ x y. x - y) (c12 .row-count .ensures) (c6 .close-gaps .ensures .count-is),
+      ended-out (inFrame (rowsOf (now (c15 .args .words))) (c15 .args .frame .0)) (now (c15 .args .words)) (examined-sound _ (c15 .pre .0)) (examined-long _ (c15 .pre .0)) _ _ _ (c6 .close-gaps .ensures) (c12 .row-count .ensures) _ _ _ (c10 .next-document .ensures) (c8 .next-frame-number .ensures) (c2 .end-rows .ensures),
     )))

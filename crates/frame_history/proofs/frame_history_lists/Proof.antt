@@ -2,7 +2,7 @@
 use borrow.Author.Needs.{needs}
 use mathlib.Core.Path.{ap}
 use native.Mathlib.Omega.{arith}
-use Rattle.asks.specs.Answers.{listedIs}
+use Rattle.lists.specs.Answers.{listedIs}
 use Rattle.frame_history.proofs.Bounds.{lists-small}
 use Rattle.frame_history.proofs.Faces.{face-gives, face-refuses}
 use Rattle.frame_history.proofs.frame_history_lists.Statement.{statement}
@@ -13,8 +13,8 @@ frame-history-lists-spec =
     tie.close (tie.spec
     (λ c κs. search needs)
     (λ c. search needs)
-    (λ c. let b = lists-small _ _ _ _ _ _ _ (c .before .before .before .before .before .before .before .lists .ensures) (ap listedIs (c .before .t .given .1)) in omega (arith, b))
-    (λ c. let b = lists-small _ _ _ _ _ _ _ (c .before .before .before .before .before .before .before .lists .ensures) (ap listedIs (c .before .t .given .1)) in omega (arith, b))
+    (λ c. let b = lists-small _ _ _ _ _ _ _ _ (c .before .before .before .before .before .before .before .lists .ensures) (ap listedIs (c .before .t .given .1)) in omega (arith, b))
+    (λ c. let b = lists-small _ _ _ _ _ _ _ _ (c .before .before .before .before .before .before .before .lists .ensures) (ap listedIs (c .before .t .given .1)) in omega (arith, b))
     (λ c. search needs)
     (λ c κs. search needs)
     (λ c. search needs)

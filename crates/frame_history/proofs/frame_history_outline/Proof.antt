@@ -15,7 +15,7 @@ frame-history-outline-spec =
     tie.close (tie.spec
     (λ c κs. search needs)
     (λ c. search needs)
-    (λ c. let b = outline-small _ _ _ _ _ (omega (arith, c .before .before .before .before .before .before .before .before .shared-slice-known .given 1, next-doc-in (now (c .before .before .before .before .before .before .before .before .before .args .words)))) (c .before .before .before .before .before .outline .ensures) (ap outlinedIs (c .before .n .given .1)) in omega (arith, b))
+    (λ c. let b = outline-small _ _ _ _ _ _ (omega (arith, c .before .before .before .before .before .before .before .before .shared-slice-known .given 1, next-doc-in (now (c .before .before .before .before .before .before .before .before .before .args .words)))) (c .before .before .before .before .before .outline .ensures) (ap outlinedIs (c .before .n .given .1)) in omega (arith, b))
     (λ c. search needs)
     (λ c κs. search needs)
     (λ c. search needs)

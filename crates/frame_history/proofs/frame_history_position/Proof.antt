@@ -2,7 +2,7 @@
 use borrow.Author.Needs.{needs}
 use mathlib.Core.Path.{ap}
 use native.Mathlib.Omega.{arith}
-use Rattle.asks.specs.Answers.{standingIs}
+use Rattle.lists.specs.Answers.{standingIs}
 use Rattle.frame_history.proofs.Bounds.{position-small}
 use Rattle.frame_history.proofs.Faces.{face-gives, face-refuses}
 use Rattle.frame_history.proofs.frame_history_position.Statement.{statement}
@@ -13,9 +13,9 @@ frame-history-position-spec =
     tie.close (tie.spec
     (λ c κs. search needs)
     (λ c. search needs)
-    (λ c. let b = position-small _ _ _ _ _ _ (c .before .before .before .position .ensures) (ap standingIs (c .before .p .given .1)) in omega (arith, b))
-    (λ c. let b = position-small _ _ _ _ _ _ (c .before .before .before .position .ensures) (ap standingIs (c .before .p .given .1)) in omega (arith, b))
-    (λ c. let b = position-small _ _ _ _ _ _ (c .before .before .before .position .ensures) (ap standingIs (c .before .p .given .1)) in omega (arith, b))
+    (λ c. let b = position-small _ _ _ _ _ _ _ (c .before .before .before .position .ensures) (ap standingIs (c .before .p .given .1)) in omega (arith, b))
+    (λ c. let b = position-small _ _ _ _ _ _ _ (c .before .before .before .position .ensures) (ap standingIs (c .before .p .given .1)) in omega (arith, b))
+    (λ c. let b = position-small _ _ _ _ _ _ _ (c .before .before .before .position .ensures) (ap standingIs (c .before .p .given .1)) in omega (arith, b))
     (λ c. search needs)
     (λ c κs. search needs)
     (λ c. face-gives _ _ _ _ (c .before .before .before .position .ensures) _ (ap standingIs (c .before .p .given .1)))

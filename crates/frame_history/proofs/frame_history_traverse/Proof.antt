@@ -11,7 +11,7 @@ pub frame-history-traverse-spec : {M : Type 1} → statement M
 frame-history-traverse-spec =
     tie.close (tie.spec
     (λ c κs. search needs)
-    (λ c κs. let c5 = c .before .before .before .before .before in traverse-told _ _ _ (c5 .traverse .result) _ (c5 .traverse .ensures))
+    (λ c κs. let c5 = c .before .before .before .before .before in traverse-told _ _ _ _ (c5 .traverse .result) _ (c5 .traverse .ensures))
     (λ c. search needs)
     (λ c. search needs)
     (λ c. let c6 = c .before .before .before .before .before .before in

@@ -19,5 +19,5 @@ back-spec =
     (λ c. search needs)
     (λ c. let c2 = c .before .before in
     let c4 = c2 .before .before in
-    back-is _ _ (c2 .n .given .1) (c4 .pre) (c .if1 .left))
+    back-is _ _ (c2 .n .given .1) _ (c4 .pre) (c .if1 .left))
     (λ c. search needs))

@@ -10,5 +10,5 @@ forth-spec =
     (λ c. search needs)
     (λ c. forth-fits _ _ (c .before .n .given .1) (c .before .before .before .pre))
     (λ c. search needs)
-    (λ c. forth-is _ _ (c .before .n .given .1) (c .before .before .before .pre))
+    (λ c. forth-is _ _ (c .before .n .given .1) _ (c .before .before .before .pre))
     (λ c. search needs))

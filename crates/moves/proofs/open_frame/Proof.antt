@@ -1,6 +1,7 @@
 -- `moves::open_frame` meets its contract. Assumes nothing.
 use borrow.Author.Needs.{needs}
 use Rattle.sound.proofs.Checks.{judged-fine, judged-refused}
+use Rattle.moves.proofs.Ways.{open-tabs, open-given}
 use Rattle.moves.proofs.open_frame.Statement.{statement}
 use Rattle.moves.proofs.open_frame.Tie as tie
 
@@ -10,8 +11,10 @@ open-frame-spec =
     (λ c κs. search needs)
     (λ c. search needs)
     (λ c. search needs)
-    (λ c κs. judged-fine _ _ (c .before .before .before .judge-open .ensures) (c .before .enum-told .given .1))
+    (λ c κs. open-tabs _ _ (judged-fine _ _ (c .before .before .before .judge-open .ensures) (c .before .enum-told .given .1)))
     (λ c. search needs)
     (λ c. judged-refused _ _ (c .before .before .before .judge-open .ensures) _ (c .before .r .given .1))
     (λ c. search needs)
-    (λ c. c .before .before .append-child .ensures))
+    (λ c. let c2 = c .before .before in
+    let c4 = c2 .before .before in
+    open-given _ _ (judged-fine _ _ (c4 .before .before .judge-open .ensures) (c4 .enum-told .given .1)) _ _ (c2 .append-frame .ensures)))

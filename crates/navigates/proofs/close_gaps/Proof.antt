@@ -21,13 +21,13 @@ close-gaps-spec =
     tie.close (tie.spec
     Inv-loop
     μ-loop
-    (λ c. let p = c .before .pre in (omega arith, omega (arith, p .2, p .3 .after), gaps-start _ (now (c .before .args .words)) _ (p .2)))
+    (λ c. let p = c .before .pre in (omega arith, omega (arith, p .3, p .4 .after), gaps-start _ (now (c .before .args .words)) _ (p .3)))
     (λ c κs. let c2 = c .before .before in
     let c4 = c2 .before .before in
-    let p = c4 .pre in turn-within (now (c4 .args .words)) (p .0) (p .1) _ _ _ (c2 .loop .inv .2) (omega (arith, p .3 .upto)))
+    let p = c4 .pre in turn-within (now (c4 .args .words)) (p .0) (p .1) (p .2) _ _ _ (c2 .loop .inv .2) (omega (arith, p .4 .upto)))
     (λ c κs. let c4 = c .before .before .before .before in
     let c6 = c4 .before .before in
-    let p = c6 .pre in turn-within (now (c6 .args .words)) (p .0) (p .1) _ _ _ (c4 .loop .inv .2) (omega (arith, p .3 .upto)))
+    let p = c6 .pre in turn-within (now (c6 .args .words)) (p .0) (p .1) (p .2) _ _ _ (c4 .loop .inv .2) (omega (arith, p .4 .upto)))
     (λ c. search needs)
     (λ c. search needs)
     (λ c. let c2 = c .before .before in
@@ -35,7 +35,7 @@ close-gaps-spec =
     let c7 = c4 .before .before .before in
     let c9 = c7 .before .before in
     let p = c9 .pre in
-    (omega arith, omega arith, turn-done (now (c9 .args .words)) (p .0) (p .1) _ _ _ (c7 .loop .inv .2) (omega (arith, p .3 .upto)) _ (p .2) (omega arith) _ _ _ (c4 .row-joins .ensures) (c2 .keep-row .ensures)))
+    (omega arith, omega arith, turn-done (now (c9 .args .words)) (p .0) (p .1) (p .2) _ _ _ (c7 .loop .inv .2) (omega (arith, p .4 .upto)) _ (p .3) (omega arith) _ _ _ (c4 .row-joins .ensures) (c2 .keep-row .ensures)))
     (λ c. over-size _ _ _ _ (c .before .loop .inv .2))
     (λ c. let p = c .before .before .before .pre in
-    gaps-end _ (now (c .before .before .before .args .words)) _ _ _ (c .before .loop .inv .2) (omega (arith, p .3 .upto)) (λ j l m. p .3 .rest j (omega arith) m)))
+    gaps-end _ (now (c .before .before .before .args .words)) _ _ _ (c .before .loop .inv .2) (omega (arith, p .4 .upto)) (λ j l m. p .4 .rest j (omega arith) m)))

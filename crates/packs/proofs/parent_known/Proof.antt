@@ -13,8 +13,5 @@ parent-known-spec =
     (λ c. let parent = c .before .before .before in
     let start = parent .before .before in
     kept-told (rowsOf (now (start .args .words))) _ _ _ _ (parent .parent .ensures) _ (start .pre .2) (c .if1 .taken))
-    (λ c. let parent = c .before .before .before .before .before .before in
-    let start = parent .before .before in
-    kept-told (rowsOf (now (start .args .words))) _ _ _ _ (parent .parent .ensures) _ (start .pre .3) (c .if2 .taken))
     (λ c κs. search needs)
     (λ c. search needs))

@@ -16,4 +16,4 @@ pass-start-spec =
     (λ c. let c1 = c .before in
     let c2 = c1 .before in
     let c4 = c2 .before .before in
-    passed-start (rowsOf (now (c4 .args .words))) _ _ _ (c2 .shown .ensures) (c4 .pre .1) (c1 .frame .ensures) (c .document .ensures)))
+    passed-start (rowsOf (now (c4 .args .words))) _ _ _ (c2 .shown .ensures) (c4 .pre .1) (c4 .pre .2) (c1 .frame .ensures) (c .document .ensures)))

@@ -24,7 +24,7 @@ pass-step-spec =
     let c6 = c3 .before .before .before in
     let c7 = c6 .before in
     let c9 = c7 .before .before in
-    step-late (rowsOf (now (c9 .args .words))) _ _ (c9 .pre .1) _ _ _ _ (c9 .pre .2) (c2 .shown .ensures) (c7 .parent .ensures) (c6 .parent2 .ensures) (c3 .if1 .left) _ (c .before .if2 .taken) (c .pass-upcoming .ensures))
+    step-late (rowsOf (now (c9 .args .words))) _ _ (c9 .pre .1) _ _ _ _ (c9 .pre .2) (c2 .shown .ensures) (c7 .parent .ensures) (c6 .parent2 .ensures) (c3 .if1 .left) _ (c .before .if2 .taken) (c .pass-late .ensures))
     (λ c κs. let q = c .before .before .before .before .before .before .before .before .pre in prior-within _ _ _ (q .0) (q .2))
     (λ c κs. search needs)
     (λ c. let c2 = c .before .before in
@@ -33,7 +33,7 @@ pass-step-spec =
     let c8 = c5 .before .before .before in
     let c9 = c8 .before in
     let c11 = c9 .before .before in
-    step-turns (rowsOf (now (c11 .args .words))) _ _ (c11 .pre .1) _ _ _ _ (c11 .pre .2) (c4 .shown .ensures) (c9 .parent .ensures) (c8 .parent2 .ensures) (c5 .if1 .left) _ _ _ refl (c2 .is-shown .ensures) (c2 .before .if2 .left) (c .before .if3 .taken) (c .pass-upcoming2 .ensures))
+    step-turns (rowsOf (now (c11 .args .words))) _ _ (c11 .pre .1) _ _ _ _ (c11 .pre .2) (c4 .shown .ensures) (c9 .parent .ensures) (c8 .parent2 .ensures) (c5 .if1 .left) _ _ _ refl (c2 .is-shown .ensures) (c2 .before .if2 .left) (c .before .if3 .taken) (c .pass-late2 .ensures))
     (λ c. search needs)
     (λ c. let q = c .before .before .before .before .before .before .before .before .before .before .before .before .before .before .pre in
     let w = q .1 .passed in

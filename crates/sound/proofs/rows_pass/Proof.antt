@@ -12,7 +12,7 @@ use Rattle.rules.specs.Below.{allBelow}
 use Rattle.rules.specs.Rows.{docAt}
 use Rattle.rules.specs.Words.{rowsOf}
 use Rattle.laws.proofs.Loops.{all-more}
-use Rattle.sound.specs.Quick.{bounded, joined, ordered}
+use Rattle.sound.specs.Quick.{bounded, linked, ordered}
 use Rattle.sound.specs.Pass.{Passed}
 use Rattle.sound.proofs.Documents.{rises-start, rises-more}
 use Rattle.sound.proofs.Passes.{row-stops, root-goes, pass-stops, pass-breaks, pass-goes, pass-uneven, pass-holds, pass-fails}
@@ -22,7 +22,7 @@ use Rattle.sound.proofs.rows_pass.Tie as tie
 
 abbrev Inv-loop : tie.InvT-loop
 Inv-loop words n top next p₀ last₀ rises₀ i₀ p last rises i =
-    (1 ≤ i) × (i ≤ n) × Passed (rowsOf words) i p × (allBelow i (bounded (rowsOf words) (top .0)) ≡ true) × (allBelow i (joined (rowsOf words)) ≡ true) × (rises ≡ allBelow i (ordered (rowsOf words))) × (last .0 ≡ docAt (rowsOf words) (i - 1))
+    (1 ≤ i) × (i ≤ n) × Passed (rowsOf words) i p × (allBelow i (bounded (rowsOf words) (top .0)) ≡ true) × (allBelow i (linked (rowsOf words)) ≡ true) × (rises ≡ allBelow i (ordered (rowsOf words))) × (last .0 ≡ docAt (rowsOf words) (i - 1))
 
 abbrev μ-loop : tie.MeasureT-loop
 μ-loop words n top next p₀ last₀ rises₀ i₀ p last rises i = n - i
@@ -38,7 +38,8 @@ rows-pass-spec =
     row-stops (rowsOf (now (c3 .args .words))) _ _ 0 (omega (arith, c3 .pre .0 .below)) (sym (c1 .is-root .ensures) ∙ not-true _ (c .if1 .taken)))
     (λ c κs. let c1 = c .before in
     let c3 = c1 .before .before in
-    (c3 .pre .0, root-goes (rowsOf (now (c3 .args .words))) _ _ (c1 .is-root .ensures) (not-false _ (c .if1 .left)) .2))
+    let root = root-goes (rowsOf (now (c3 .args .words))) _ _ (c1 .is-root .ensures) (not-false _ (c .if1 .left)) in
+    (c3 .pre .0, root .2, root .3))
     (λ c κs. search needs)
     (λ c. let c1 = c .before in
     let c2 = c1 .before in

@@ -22,7 +22,7 @@ abbrev μ-loop : tie.MeasureT-loop
 inside : (c : tie.In-loop Inv-loop μ-loop) →
     let args = c .before .before .before .before .before .before .before .args in
     let loop = c .before .loop in
-    (65 ≤ length (now (args .line))) × (loop .at < length (now (args .text))) × (loop .used + 66 ≤ length (loop .out))
+    (65 ≤ length (now (args .line))) × (loop .at < length (now (args .text))) × (loop .used + 67 ≤ length (loop .out))
 inside c =
     let args = c .before .before .before .before .before .before .before .args in
     let loop = c .before .loop in

@@ -16,13 +16,18 @@ put-reply-spec =
     (λ c. search needs)
     (λ c κs. search needs)
     (λ c. search needs)
+    (λ c κs. search needs)
+    (λ c. search needs)
     (λ c κs. room-for Replies.Bad _ _ tt (c .before .before .before .before .pre))
     (λ c. search needs)
     (λ c. let c2 = c .before .before in
     (same-text _ _ _ _ _ _ (ap (λ r. answerText (replyIs r)) (c2 .before .before .before .reply .given .1)) (c2 .put-ok .ensures .0), c2 .put-ok .ensures .1))
     (λ c. search needs)
     (λ c. let c2 = c .before .before in
-    (same-text _ _ _ _ _ _ (ap (λ r. answerText (replyIs r)) (c2 .before .before .before .reply2 .given .1)) (c2 .put-no .ensures .0), c2 .put-no .ensures .1))
+    (same-text _ _ _ _ _ _ (ap (λ r. answerText (replyIs r)) (c2 .before .before .before .reply2 .given .1)) (c2 .put-tab .ensures .0), c2 .put-tab .ensures .1))
+    (λ c. search needs)
+    (λ c. let c2 = c .before .before in
+    (same-text _ _ _ _ _ _ (ap (λ r. answerText (replyIs r)) (c2 .before .before .before .reply3 .given .1)) (c2 .put-no .ensures .0), c2 .put-no .ensures .1))
     (λ c. search needs)
     (λ c. let c2 = c .before .before in
     let w = written-short Replies.Bad _ _ _ _ tt (c2 .put-answer .ensures) in

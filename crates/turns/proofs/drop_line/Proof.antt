@@ -2,6 +2,7 @@
 use mathlib.Core.Path.{ap}
 use borrow.Author.Needs.{needs}
 use Rattle.drops.specs.Answers.{droppedIs}
+use Rattle.turns.specs.Turns.{oneNumber}
 use Rattle.turns.proofs.Told.{moved-by}
 use Rattle.turns.proofs.drop_line.Statement.{statement}
 use Rattle.turns.proofs.drop_line.Tie as tie
@@ -18,8 +19,8 @@ drop-line-spec =
     (λ c. search needs)
     (λ c. let c3 = c .before .before .before in
     let c7 = c3 .before .before .before .before in
-    moved-by _ _ _ _ _ (c7 .drop-frame .ensures) (ap droppedIs (c3 .n .given .1)) (c .accept .ensures))
+    moved-by oneNumber _ _ _ _ _ (c7 .drop-frame .ensures) (ap droppedIs (c3 .n .given .1)) (c .accept .ensures))
     (λ c. search needs)
     (λ c. let c3 = c .before .before .before in
     let c7 = c3 .before .before .before .before in
-    moved-by _ _ _ _ _ (c7 .drop-frame .ensures) (ap droppedIs (c3 .r .given .1)) (c .deny .ensures)))
+    moved-by oneNumber _ _ _ _ _ (c7 .drop-frame .ensures) (ap droppedIs (c3 .r .given .1)) (c .deny .ensures)))

@@ -22,10 +22,10 @@ go-line-spec =
     (λ c. let c3 = c .before .before .before in
     let c9 = c3 .before .before .before .before .before .before in
     let c14 = c9 .before .before .before .before .before in
-    gone-by _ _ _ _ _ _ (by-amount _ _ _ _ _ (toZ-ofZ w32 (c14 .args .delta) (c14 .fits .delta)) (c9 .traverse .ensures)) (ap traversedIs (c3 .n .given .1)) (c .accept .ensures))
+    gone-by _ _ _ _ _ _ (by-amount _ _ _ _ _ _ (toZ-ofZ w32 (c14 .args .delta) (c14 .fits .delta)) (c9 .traverse .ensures)) (ap traversedIs (c3 .n .given .1)) (c .accept .ensures))
     (λ c. search needs)
     (λ c. search needs)
     (λ c. let c3 = c .before .before .before in
     let c9 = c3 .before .before .before .before .before .before in
     let c14 = c9 .before .before .before .before .before in
-    gone-by _ _ _ _ _ _ (by-amount _ _ _ _ _ (toZ-ofZ w32 (c14 .args .delta) (c14 .fits .delta)) (c9 .traverse .ensures)) (ap traversedIs (c3 .r .given .1)) (c .deny .ensures)))
+    gone-by _ _ _ _ _ _ (by-amount _ _ _ _ _ _ (toZ-ofZ w32 (c14 .args .delta) (c14 .fits .delta)) (c9 .traverse .ensures)) (ap traversedIs (c3 .r .given .1)) (c .deny .ensures)))

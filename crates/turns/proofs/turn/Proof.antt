@@ -24,6 +24,8 @@ turn-spec =
     (λ c. search needs)
     (λ c κs. search needs)
     (λ c. search needs)
+    (λ c κs. search needs)
+    (λ c. search needs)
     (λ c. search needs)
     (λ c. let c2 = c .before .before in
     let c5 = c2 .before .before .before in
@@ -46,7 +48,7 @@ turn-spec =
     let c10 = c8 .before .before in
     let c14 = c10 .before .before .before .before in
     turned-gone (now (c14 .args .words)) (now (c14 .args .changes)) (now (c14 .args .line))
-    (c10 .parse .result) _ _ _ (c10 .parse .ensures) (ap commandIs (c8 .delta .given .1)) (toZ-ofZ w32 (c8 .delta .given .0 .0) (record { sfits = c7 .known-told3 .given .0 .1 })) (c4 .go-line .ensures))
+    (c10 .parse .result) _ _ _ _ (c10 .parse .ensures) (ap commandIs (c8 .root .given .1)) (toZ-ofZ w32 (c8 .root .given .0 .1 .0) (record { sfits = c7 .known-told3 .given .1 .0 .1 })) (c4 .go-line .ensures))
     (λ c. search needs)
     (λ c. let c2 = c .before .before in
     let c5 = c2 .before .before .before in
@@ -61,7 +63,14 @@ turn-spec =
     let c11 = c7 .before .before .before .before in
     turned-by (now (c11 .args .words)) (now (c11 .args .changes)) (now (c11 .args .line))
     (c7 .parse .result) _ _ (c7 .parse .ensures) (ap commandIs (c5 .d2 .given .1)) (c2 .replace-line .ensures (now (c11 .args .changes))))
+    (λ c. search needs)
+    (λ c. let c2 = c .before .before in
+    let c4 = c2 .before .before in
+    let c6 = c4 .before .before in
+    let c10 = c6 .before .before .before .before in
+    turned-by (now (c10 .args .words)) (now (c10 .args .changes)) (now (c10 .args .line))
+    (c6 .parse .result) _ _ (c6 .parse .ensures) (ap commandIs (c4 .enum-told .given .1)) (c2 .tab-line .ensures (now (c10 .args .changes))))
     (λ c. let c2 = c .before .before in
     let c6 = c2 .before .before .before .before in
     turned-by (now (c6 .args .words)) (now (c6 .args .changes)) (now (c6 .args .line))
-    (c2 .parse .result) _ _ (c2 .parse .ensures) (ap commandIs (c .enum-told .given .1)) refl))
+    (c2 .parse .result) _ _ (c2 .parse .ensures) (ap commandIs (c .enum-told2 .given .1)) refl))

@@ -1,0 +1,5 @@
+pub mod Heads
+pub mod Taken
+pub mod Windowed
+pub mod Returned
+pub mod Among

@@ -1,0 +1,4 @@
+pub mod Alone
+pub mod Among
+pub mod Answered
+pub mod Listing
