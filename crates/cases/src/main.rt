@@ -11,6 +11,7 @@ use lists::Standing;
 use moves::Freshened;
 use moves::Opened;
 use navigates::Navigated;
+use outlines::Outlined;
 use replaces::Replaced;
 use traverses::Traversed;
 
@@ -137,8 +138,8 @@ fn say_amount(delta: i32) {
     say_number(base::magnitude(delta) as u64);
 }
 
-// A change row.
-fn say_change(row: &[u32; 4]) {
+// Four words: a change row, or two pairs of an outline.
+fn say_four(row: &[u32; 4]) {
     say(b" (");
     say_word(row[0]);
     say(b", ");
@@ -158,7 +159,7 @@ fn say_traversed(words: &mut [u32], root: u32, delta: i32) {
         Traversed::Changes(n) => {
             say_number(n as u64);
             say(b" changed");
-            say_change(&row);
+            say_four(&row);
         }
         Traversed::Refused(r) => say_refused(r),
     }
@@ -290,6 +291,22 @@ fn list(words: &[u32], root: u32) {
             say(b")\n");
         }
         Listed::Refused(r) => say_refused(r),
+    }
+}
+
+// Outline, told, with room for two documents.
+fn outline(words: &[u32], root: u32) {
+    say(b"  outline of ");
+    say_word(root);
+    say(b": ");
+    let mut pairs = [9u32; 4];
+    match outlines::outline(words, FrameNo(root), &mut pairs) {
+        Outlined::Pairs(n) => {
+            say_number(n as u64);
+            say(b" visible");
+            say_four(&pairs);
+        }
+        Outlined::Refused(r) => say_refused(r),
     }
 }
 
@@ -886,6 +903,8 @@ fn windows_apart() {
     go_in(&mut words, 1, -1);
     stand(&words);
     stand_in(&words, 1);
+    outline(&words, 0);
+    outline(&words, 1);
     let mut again = pair();
     go(&mut again, 1);
     stand(&again);
@@ -899,10 +918,12 @@ fn no_window() {
     stand_in(&words, 1);
     go_in(&mut words, 9, 5);
     list(&words, 9);
+    outline(&words, 1);
     let mut nine = record_nine();
     stand_in(&nine, 9);
     go_in(&mut nine, 9, 0);
     list(&nine, 9);
+    outline(&nine, 9);
     stand_in(&[0u32; 6], 9);
     let other = swapped();
     stand_in(&other, 1);

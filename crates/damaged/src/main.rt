@@ -1,5 +1,5 @@
 // Saved bytes, whole and damaged, loaded: what the loading calls answer, and whether a refused record reads as before. And the bytes themselves, byte by byte: of a record, in both
-// forms; of one with a document replaced; and of what was loaded from these, saved again.
+// forms; of one with a document replaced; of one with two windows; and of what was loaded from these, saved again.
 //
 // The bytes are those of document 01's record X: 4 frames, next numbers 6 and 4; frames (number, parent, documents, shown place) from byte 12 on, (0, none, 1, 0), (1, 0, 2, 0),
 // (2, 1, 2, 1), (3, 0, 1, 0); then from byte 76 on documents, each with its row place, which is the same number: 0; 1, 5; 2, 4; 3. In the old form there are only the documents.
@@ -84,6 +84,35 @@ fn record_x() -> [u32; 35] {
     ]
 }
 
+// Documents 0 and 2 of root frame 0, of which 0 is shown, 1 and 3 of root frame 1, of which 3 is, and 4 in document 1: sound by windows, and not as one.
+fn pair() -> [u32; 23] {
+    [
+        5,
+        5,
+        3,
+        0,
+        0,
+        NONE,
+        1,
+        1,
+        1,
+        NONE,
+        0,
+        2,
+        0,
+        NONE,
+        0,
+        3,
+        1,
+        NONE,
+        1,
+        4,
+        2,
+        1,
+        1,
+    ]
+}
+
 // Bytes of a form: so many of these, and whether it is the old one.
 struct Form {
     bytes: [u8; 125],
@@ -139,30 +168,34 @@ fn saved_renewed() -> Form {
     saved_of(b"X with document 1 replaced", &words)
 }
 
-// Where byte k of the old form stands in the new one: the contents are the same, and of each entry the document comes first.
-fn source(k: usize) -> usize
-    requires { ⌜ k < 100 ⌝ }
-    ensures { λ r. ⌜ r < 125 ⌝ }
+// Where byte k of the old form stands in the new one, after so many bytes of contents: these are the same, and of each entry the document comes first.
+fn source(head: usize, k: usize) -> usize
+    requires { ⌜ k < 125 ⌝ }
 {
-    if k < 76 {
+    if k < head {
         return k;
     }
-    let i = k - 76;
-    76 + 8 * (i / 4) + i % 4
+    let i = k - head;
+    k + 4 * (i / 4)
 }
 
-// X as it was saved in the old form.
-fn old_x(whole: Form) -> Form {
+// A byte; 0 where there is none.
+fn byte_at(bytes: &[u8], at: usize) -> u8 {
+    if at < bytes.len() { bytes[at] } else { 0 }
+}
+
+// A record as it was saved in the old form, with so many bytes of contents and so many in all.
+fn old_form(whole: Form, head: usize, len: usize) -> Form {
     let from = whole.bytes;
     let mut bytes = [0u8; 125];
     let mut k = 0;
-    while k < 100 {
-        bytes[k] = from[source(k)];
+    while k < 125 {
+        bytes[k] = byte_at(&from, source(head, k));
         k += 1;
     }
     Form {
         bytes,
-        len: 100,
+        len,
         old: true,
     }
 }
@@ -352,7 +385,7 @@ fn main() {
     entries(whole);
     other(b"to the old form's call", whole);
     say(b"The old form\n");
-    let old = old_x(whole);
+    let old = old_form(whole, 76, 100);
     tell(old);
     again(old);
     either(old);
@@ -362,4 +395,8 @@ fn main() {
     tell(renewed);
     again(renewed);
     other(b"to the old form's call", renewed);
+    let windows = saved_of(b"A record of two windows", &pair());
+    tell(windows);
+    again(windows);
+    cut(b"in the old form", old_form(windows, 60, 80), 80);
 }
