@@ -1,11 +1,7 @@
-//! The questions: position, visible, lists, stretch.
+//! The questions: position (of `windows`), visible, lists, stretch.
 use crate::record::{DOCUMENT, Refusal, Stand, climb, examine, find, steps};
+pub use crate::windows::position;
 use crate::windows::ask;
-
-/// Position and steps of a window.
-pub fn position(words: &[u32], root: u32) -> Result<(usize, usize), Refusal> {
-    ask(words, root, |stand| Ok((stand.position, stand.steps)))
-}
 
 /// Who hides a document, nobody where it is visible; and how many parent links were followed.
 pub fn visible(words: &[u32], document: u32) -> Result<(Option<u32>, usize), Refusal> {

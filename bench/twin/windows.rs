@@ -63,25 +63,26 @@ fn follows_shown(rows: &[Row], at: usize) -> bool {
     last_of(&rows[..at], rows[at][FRAME], NONE).is_some_and(|prior| rows[prior][SHOWN] == 1)
 }
 
-/// Whether a later step of a row's window is shown.
-fn shown_after(rows: &[Row], at: usize) -> bool {
-    let mut window = Window::above(rows, at);
-    let is_step = |at: usize| last_of(&rows[..at], rows[at][FRAME], NONE).is_some();
-    (at + 1..rows.len()).any(|later| rows[later][SHOWN] == 1 && window.has(rows, later) && is_step(later))
+/// Whether a row is a shown step.
+fn is_shown_step(rows: &[Row], at: usize) -> bool {
+    rows[at][SHOWN] == 1 && last_of(&rows[..at], rows[at][FRAME], NONE).is_some()
 }
 
-/// S7 within each window, and that no frame shows two rows, where the table is not in order as a whole: from the first upcoming step of each frame
-/// a look at the later rows of its window. No step before `start` is upcoming.
+/// S7 within each window, and that no frame shows two rows, where the table is not in order as a whole: from the first upcoming step of a window, at `start`
+/// that of all, a look at the later rows of it. A row of the window last looked at needs no look.
 #[inline(never)]
 pub fn each_ordered(rows: &[Row], start: usize) -> bool {
-    let mut high = rows[..start].iter().map(|row| row[FRAME]).fold(0, u32::max);
+    let mut last: Option<Window> = None;
     for at in start..rows.len() {
-        let [_, frame, _, flag] = rows[at];
-        let comes = last_of(&rows[..at], frame, high).is_some_and(|prior| rows[prior][SHOWN] == 1);
-        if comes && (flag != 0 || shown_after(rows, at)) {
+        if last.as_mut().is_some_and(|window| window.has(rows, at)) || !follows_shown(rows, at) {
+            continue;
+        }
+        let mut window = Window::above(rows, at);
+        window.within = rows[at][PARENT];
+        if (at..rows.len()).any(|later| is_shown_step(rows, later) && window.has(rows, later)) {
             return false;
         }
-        high = high.max(frame);
+        last = Some(window);
     }
     true
 }
@@ -130,6 +131,32 @@ impl Several {
         let last = if position == 0 { 0 } else { step_place(own, count - steps, position - 1) };
         (count > 0).then_some(Stand { rows: own, steps, position, upcoming, last })
     }
+}
+
+/// Position and steps of a window, after refusals 1, 2 and 13. Of several they are counted by its flags: it has as many steps as hidden rows, and as many taken ones as
+/// are hidden before its latest shown step.
+pub fn position(words: &[u32], root: u32) -> Result<(usize, usize), Refusal> {
+    match locate(words)? {
+        Table { stand, several: None } if stand.rows[0][FRAME] == root => Ok((stand.position, stand.steps)),
+        Table { several: None, .. } => Err(Refusal::NoWindow),
+        Table { stand, .. } => tally(stand.rows, root).ok_or(Refusal::NoWindow),
+    }
+}
+
+/// The same of one of several windows, if there is one.
+fn tally(rows: &[Row], root: u32) -> Option<(usize, usize)> {
+    rows.iter().find(|row| row[PARENT] == NONE && row[FRAME] == root)?;
+    let mut window = Window::of(root);
+    let (mut taken, mut hidden) = (0, 0);
+    for at in 0..rows.len() {
+        if window.has(rows, at) {
+            if is_shown_step(rows, at) {
+                taken = hidden;
+            }
+            hidden += (rows[at][SHOWN] == 0) as usize;
+        }
+    }
+    Some((taken, hidden))
 }
 
 /// What a window answers, after refusals 1, 2 and 13; one of several by a copy of its rows.

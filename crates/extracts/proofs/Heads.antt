@@ -15,13 +15,12 @@ use Rattle.rules.specs.Words.{rowsOf}
 use Rattle.laws.proofs.Tests.{same-tests, some-in, some-out}
 use Rattle.laws.proofs.Loops.{earliest-in}
 use Rattle.laws.proofs.Tree.{Alike}
-use Rattle.windows.proofs.Extracted.{otherRoot}
 use Rattle.sound.specs.Check.{Examined}
 use Rattle.sound.specs.Survey.{Located}
 use Rattle.sound.specs.declared.Stand.{Stand}
 use Rattle.sound.proofs.Checks.{examined-sound}
 use Rattle.sound.proofs.Alone.{alone-root}
-use Rattle.extracts.specs.Windows.{heads, FirstOther}
+use Rattle.extracts.specs.Windows.{heads, otherRoot, FirstOther}
 
 module _ (rows : List Row) (r i f p : ℕ) (frame-is : f ≡ frameAt rows i) (parent-is : p ≡ parentAt rows i) where
   pub head-is : (eqb f r && eqb p none) ≡ heads rows r i

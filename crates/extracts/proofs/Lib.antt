@@ -1,5 +1,6 @@
 pub mod Heads
 pub mod Taken
+pub mod Stands
 pub mod Windowed
 pub mod Returned
 pub mod Among

@@ -19,30 +19,12 @@ use Rattle.windows.proofs.Roots.{root-top}
 use Rattle.windows.proofs.Members.{root-own}
 use Rattle.windows.proofs.Answers.{Twins}
 use Rattle.sound.specs.Check.{Examined}
-use Rattle.base.specs.declared.Refusal.{Refusal}
-use Rattle.sound.specs.Survey.{alone?, standOf, surveyOf, Located}
+use Rattle.sound.specs.Survey.{alone?, standOf, Located}
 use Rattle.sound.specs.declared.Stand.{Stand}
-use Rattle.sound.specs.declared.Survey.{Survey}
-use Rattle.sound.specs.declared.Survey.the-variants.{Stands, Several, No}
 use Rattle.sound.proofs.Quick.{one-begins}
 use Rattle.sound.proofs.Checks.{examined-sound, examined-fits}
 use Rattle.extracts.specs.Windows.{heads}
 use Rattle.extracts.proofs.Taken.{zeros, copy-table, copy-examined}
-
--- What the survey of a record of one window is.
-module _ (own : List ℕ) (e : Examined own) (one : So (alone? (rowsOf own))) (k : Survey) (is : k ≡ surveyOf own) where
-  surveyed : k ≡ Stands (standOf (rowsOf own))
-  unfolding surveyOf
-  surveyed = is ∙ rw (e .long, e .passes, one) refl
-
-  pub alone-stands : (s : Stand) → k ≡ Stands s → s ≡ standOf (rowsOf own)
-  alone-stands s q = let z = surveyed in cc
-
-  pub not-several : k ≡ Several → ⊥
-  not-several q = let z = surveyed in let y : _≡_ {A = ℕ} 0 1 = cc in omega arith
-
-  pub not-refused : (r : Refusal) → k ≡ No r → ⊥
-  not-refused r q = let z = surveyed in let y : _≡_ {A = ℕ} 0 1 = cc in omega arith
 
 module _ (words : List ℕ) (e : Examined words) (word : tableOf words .nextDoc ≤ none) (r : ℕ) (root : So (isRoot (rowsOf words) r)) where
   abbrev rows : List Row
@@ -55,7 +37,7 @@ module _ (words : List ℕ) (e : Examined words) (word : tableOf words .nextDoc 
   wide = wide-rows (examined-sound words e .table) word
 
   -- It has a row, and no more than the record.
-  some : 1 ≤ length (window .rows)
+  pub some : 1 ≤ length (window .rows)
   unfolding isRoot
   some =
       let k = some-out (heads rows r) (length rows) root in

@@ -1,25 +1,47 @@
 -- A window by itself, and its flags put back. Definitions.
 use Prim.Native.Nat.{ℕ, _+_, _*_, _≤_, _<_}
-use mathlib.Core.Bool.{Bool, _&&_, cond}
-use mathlib.Core.List.{List, [], _∷_}
+use mathlib.Core.Bool.{Bool, not, _&&_, So, cond}
+use mathlib.Core.List.{List, [], _∷_, flatMap}
 use mathlib.Core.Path.{_≡_}
-use lib.Dec.{eqb, ltb}
-use lib.ListN.{length}
-use Rattle.rules.specs.Below.{earliest}
-use Rattle.rules.specs.Rows.{Row, Table, none, docAt, parentAt, shownAt, inFrame}
-use Rattle.rules.specs.Windows.{windowRows}
+use lib.Dec.{eqb, leb, ltb}
+use lib.ListN.{length, replicate}
+use Rattle.rules.specs.Below.{count, earliest, gather}
+use Rattle.rules.specs.Rows.{Row, Table, none, rowAt, docAt, parentAt, shownAt, inFrame}
+use Rattle.rules.specs.Windows.{inWindow, windowRows}
 use Rattle.rules.specs.Moves.{reflagged}
-use Rattle.rules.specs.Words.{put, tableOf, rowsOf, written}
-use Rattle.windows.proofs.Extracted.{otherRoot}
+use Rattle.rules.specs.Words.{put, rowWords, tableOf, rowsOf, written}
+use Rattle.laws.proofs.Hidden.{hidden}
 use Rattle.sound.specs.Check.{Examined}
 
 -- Row i is of frame r and has no parent.
 abbrev pub heads : List Row → ℕ → ℕ → Bool
 heads rows r i = inFrame rows r i && eqb (parentAt rows i) none
 
+-- Row i is of a root frame, and not of frame r.
+abbrev pub otherRoot : ℕ → List Row → ℕ → Bool
+otherRoot r rows i = eqb (parentAt rows i) none && not (inFrame rows r i)
+
 -- Place i is that of the first row of another root frame, or the rows' end.
 abbrev pub FirstOther : List Row → ℕ → ℕ → Type 0
 FirstOther rows r i = i ≡ earliest (otherRoot r rows) (length rows)
+
+-- Where no other root frame has begun, the rows are of window r.
+abbrev pub Starts : ℕ → List Row → Type 0
+Starts r rows = (i : ℕ) → i < earliest (otherRoot r rows) (length rows) → i < length rows → So (inWindow r rows i)
+
+-- A row is put behind k others if it is to be there.
+pub record Gathers (inside : Bool) (row : Row) (k : ℕ) (old : List ℕ) (next : ℕ) (new : List ℕ) : Type 0 where
+  pub next-is : next ≡ cond inside (k + 1) k
+  pub words-are : new ≡ cond inside (put old (3 + 4 * k) (rowWords row)) old
+
+-- The rows of window r among the first i, k of them, stand in what were zero words.
+pub record Gathered (r : ℕ) (rows : List Row) (i k : ℕ) (own : List ℕ) : Type 0 where
+  pub many : k ≡ count (inWindow r rows) i
+  pub words-are : own ≡ put (replicate 2051 0) 3 (flatMap rowWords (gather (inWindow r rows) (rowAt rows) i))
+
+-- Row k is hidden and stands at place i or later.
+abbrev pub hiddenFrom : List Row → ℕ → ℕ → Bool
+hiddenFrom rows i k = leb i k && hidden rows k
 
 -- Row k of `own` is there and holds the document of row i.
 abbrev pub meets : List ℕ → ℕ → List ℕ → ℕ → Bool

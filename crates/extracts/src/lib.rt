@@ -1,30 +1,30 @@
 // A window taken out of a record of several into a record of its own, and its flags put back. Only calls that name a window come here, and only where there are several:
 // the words of the copy, 3 + 4 * 512 = 2051, are lent by them.
 //
-// What bounds it, for n rows: the words in use are copied once, and closing the gaps that the other windows leave is one pass, in which a row looks back for its parent unless
-// that is one of those in mind (`packs`). Putting the flags back is one walk over both records.
+// What bounds it, for n rows: the window's rows are copied in one walk, in which a row climbs unless its parent is one of those in mind (`members`). Where the window stands is
+// read off its flags: one walk back to the latest shown step, one on to the next hidden row, and two counts. Putting the flags back is one walk over both records.
 use base::FrameNo;
 use base::RowPlace;
-use packs::Keeping;
+use members::Known;
+use members::Member;
 use reads::NONE;
 use sound::Stand;
-use sound::Survey;
 ghost use mathlib.Core.Bool.{So};
 ghost use mathlib.Core.Path.{_≡_};
-ghost use Prim.Native.Nat.{_≤_, _<_};
+ghost use Prim.Native.Nat.{_<_};
 ghost use lib.ListN.{length, replicate};
 ghost use lib.Dec.{eqb};
-ghost use Rattle.rules.specs.Rows.{none, frameAt};
+ghost use Rattle.rules.specs.Below.{count, earliest, latest};
+ghost use Rattle.rules.specs.Rows.{rowAt, frameAt, isShown};
 ghost use Rattle.rules.specs.Windows.{isRoot};
-ghost use Rattle.rules.specs.Moves.{without};
-ghost use Rattle.rules.specs.Words.{tableOf, rowsOf, written};
+ghost use Rattle.rules.specs.Words.{capacity, rowsOf, written};
 ghost use Rattle.rules.specs.Calls.{windowIn};
 ghost use Rattle.reads.specs.Within.{Before, Within};
-ghost use Rattle.windows.proofs.Extracted.{otherRoot};
+ghost use Rattle.laws.proofs.Hidden.{hidden, shownStep};
+ghost use Rattle.members.specs.Members.{Recalls, Sided};
 ghost use Rattle.sound.specs.Check.{Examined};
 ghost use Rattle.sound.specs.Survey.{alone?, Located, standOf};
-ghost use Rattle.packs.specs.Packing.{Over};
-ghost use Rattle.extracts.specs.Windows.{heads, FirstOther, Gives, PutBack};
+ghost use Rattle.extracts.specs.Windows.{heads, otherRoot, FirstOther, Starts, Gathers, Gathered, hiddenFrom, Gives, PutBack};
 
 // Whether a row is of a root frame, and that is this one.
 fn is_head(words: &[u32], at: RowPlace, root: FrameNo) -> bool
@@ -90,40 +90,52 @@ pub fn first_other(words: &[u32], root: FrameNo) -> RowPlace
     RowPlace(n)
 }
 
-// Removes the other root frames with all beneath them and closes the gaps, from the first row that goes on. How many rows stay.
-fn close_gaps(words: &mut [u32], first: RowPlace, root: FrameNo) -> usize
-    requires { ⌜ Examined (now words) × (tableOf (now words) .nextDoc ≤ none) × FirstOther (rowsOf (now words)) (root .0) (first .0) × (first .0 < length (rowsOf (now words))) ⌝ }
-    ensures { λ r. ⌜ Over (without (otherRoot (root .0) (rowsOf (now (words .entry)))) (rowsOf (now (words .entry)))) (now (words .entry)) r (now (words .exit)) ⌝ }
+// Whether a row is of a window, of which the first row of another root frame is told: the rows before that are.
+fn belongs_past(words: &[u32], at: RowPlace, first: RowPlace, root: FrameNo, known: Known) -> Member
+    requires { ⌜ Within (now words) (at .0) × FirstOther (rowsOf (now words)) (root .0) (first .0) × Starts (root .0) (rowsOf (now words)) × Recalls (root .0) (rowsOf (now words)) known ⌝ }
+    ensures { λ r. ⌜ Sided (root .0) (rowsOf (now (words .entry))) (at .0) r ⌝ }
 {
-    let n = rows::row_count(words);
-    let found = reads::parent(words, first);
-    let missed = reads::document(words, first);
-    let mut kept = Keeping {
-        rows: first.0,
-        found,
-        missed,
-    };
-    let mut i = first.0 + 1;
-    while i < n {
-        let passes = is_other(words, RowPlace(i), root);
-        kept = packs::turn(words, RowPlace(i), passes, kept);
-        i += 1;
+    if at.0 < first.0 {
+        return Member {
+            inside: true,
+            known,
+        };
     }
-    kept.rows
+    members::belongs(words, at, root, known)
 }
 
-// Leaves a window alone in a sound record, of which the first row of another root frame is told.
-fn leave_alone(words: &mut [u32], root: FrameNo, first: RowPlace)
-    requires { ⌜ Examined (now words) × FirstOther (rowsOf (now words)) (root .0) (first .0) ⌝ }
-    ensures { λ _. ⌜ now (words .exit) ≡ written (now (words .entry)) (windowIn (now (words .entry)) (root .0)) ⌝ }
+// Copies a row behind the k rows of another record, if it is to be there. How many there are then.
+fn gather_row(words: &[u32], at: RowPlace, inside: bool, own: &mut [u32], k: usize) -> usize
+    requires { ⌜ Within (now words) (at .0) × (k < capacity (now own)) ⌝ }
+    ensures { λ r. ⌜ Gathers inside (rowAt (rowsOf (now (words .entry))) (at .0)) k (now (own .entry)) r (now (own .exit)) ⌝ }
+{
+    if !inside {
+        return k;
+    }
+    let document = reads::document(words, at);
+    let frame = reads::frame(words, at);
+    let parent = reads::parent(words, at);
+    let shown = reads::shown(words, at);
+    writes::put_row(own, RowPlace(k), document, frame, parent, shown);
+    k + 1
+}
+
+// Copies the rows of a window of a sound record, of which the first row of another root frame is told, into zero words with room for 512 rows. How many they are.
+fn gather_rows(words: &[u32], root: FrameNo, first: RowPlace, own: &mut [u32]) -> usize
+    requires { ⌜ Examined (now words) × FirstOther (rowsOf (now words)) (root .0) (first .0) × (now own ≡ replicate 2051 0) ⌝ }
+    ensures { λ r. ⌜ Gathered (root .0) (rowsOf (now (words .entry))) (length (rowsOf (now (words .entry)))) r (now (own .exit)) ⌝ }
 {
     let n = rows::row_count(words);
-    let next = rows::next_document(words);
-    let top = rows::next_frame_number(words);
-    if first.0 < n {
-        let k = close_gaps(words, first, root);
-        packs::end_rows(words, k, n, next, top);
+    let mut known = members::nothing_known();
+    let mut k = 0;
+    let mut i = 0;
+    while i < n {
+        let m = belongs_past(words, RowPlace(i), first, root, known);
+        k = gather_row(words, RowPlace(i), m.inside, own, k);
+        known = m.known;
+        i += 1;
     }
+    k
 }
 
 // Takes a window of a sound record, of which the first row of another root frame is told, out into zero words with room for 512 rows.
@@ -131,8 +143,66 @@ pub fn take_out(words: &[u32], root: FrameNo, first: RowPlace, own: &mut [u32])
     requires { ⌜ Examined (now words) × FirstOther (rowsOf (now words)) (root .0) (first .0) × (now own ≡ replicate 2051 0) ⌝ }
     ensures { λ _. ⌜ now (own .exit) ≡ written (replicate 2051 0) (windowIn (now (words .entry)) (root .0)) ⌝ }
 {
-    writes::copy(own, words, 3 + 4 * rows::row_count(words));
-    leave_alone(own, root, first);
+    let k = gather_rows(words, root, first, own);
+    let next = rows::next_document(words);
+    let top = rows::next_frame_number(words);
+    writes::put_head(own, k, next, top);
+}
+
+// WHERE A WINDOW STANDS, BY ITS FLAGS
+
+// The latest shown step of a sound record; its first row where there is none.
+fn latest_shown(own: &[u32]) -> RowPlace
+    requires { ⌜ Examined (now own) ⌝ }
+    ensures { λ r. ⌜ r .0 ≡ latest (shownStep (rowsOf (now (own .entry)))) (length (rowsOf (now (own .entry)))) ⌝ }
+{
+    let mut i = rows::row_count(own);
+    while 0 < i {
+        if sound::is_shown_step(own, RowPlace(i - 1)) {
+            return RowPlace(i - 1);
+        }
+        i -= 1;
+    }
+    RowPlace(0)
+}
+
+// Whether a row is hidden.
+fn is_hidden(own: &[u32], at: RowPlace) -> bool
+    requires { ⌜ Within (now own) (at .0) ⌝ }
+    ensures { λ r. ⌜ r ≡ hidden (rowsOf (now (own .entry))) (at .0) ⌝ }
+{
+    !reads::is_shown(own, at)
+}
+
+// The first hidden row from a place on; the rows' end where there is none.
+fn first_hidden(own: &[u32], from: RowPlace) -> RowPlace
+    requires { ⌜ Before (now own) (from .0) ⌝ }
+    ensures { λ r. ⌜ r .0 ≡ earliest (hiddenFrom (rowsOf (now (own .entry))) (from .0)) (length (rowsOf (now (own .entry)))) ⌝ }
+{
+    let n = rows::row_count(own);
+    let mut i = from.0;
+    while i < n {
+        if is_hidden(own, RowPlace(i)) {
+            return RowPlace(i);
+        }
+        i += 1;
+    }
+    RowPlace(n)
+}
+
+// How many rows before a place are shown.
+fn count_shown(own: &[u32], to: RowPlace) -> usize
+    requires { ⌜ Before (now own) (to .0) ⌝ }
+    ensures { λ r. ⌜ r ≡ count (isShown (rowsOf (now (own .entry)))) (to .0) ⌝ }
+{
+    let end = to.0;
+    let mut k = 0;
+    let mut i = 0;
+    while i < end {
+        k += reads::is_shown(own, RowPlace(i)) as usize;
+        i += 1;
+    }
+    k
 }
 
 // Where the window of a sound record of one window stands.
@@ -140,22 +210,17 @@ pub fn stand_alone(own: &[u32]) -> Stand
     requires { ⌜ Examined (now own) × So (alone? (rowsOf (now own))) ⌝ }
     ensures { λ r. ⌜ r ≡ standOf (rowsOf (now (own .entry))) ⌝ }
 {
-    match sound::locate(own) {
-        Survey::Stands(s) => s,
-        Survey::Several => Stand {
-            frames: 0,
-            steps: 0,
-            position: 0,
-            upcoming: RowPlace(0),
-            last: RowPlace(0),
-        },
-        Survey::No(_) => Stand {
-            frames: 0,
-            steps: 0,
-            position: 0,
-            upcoming: RowPlace(0),
-            last: RowPlace(0),
-        },
+    let n = rows::row_count(own);
+    let last = latest_shown(own);
+    let upcoming = first_hidden(own, RowPlace(last.0 + 1));
+    let frames = count_shown(own, RowPlace(n));
+    let begun = count_shown(own, upcoming);
+    Stand {
+        frames,
+        steps: n - frames,
+        position: upcoming.0 - begun,
+        upcoming,
+        last,
     }
 }
 

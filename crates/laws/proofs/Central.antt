@@ -77,13 +77,18 @@ at-at p q rows =
     subst₂ (λ n fr. withFlags (shows n fr q) (flagsAt p rows) ≡ flagsAt q rows) (sym (at-length p rows)) (sym (at-frame p rows)) (flags-flags _ _ rows)
 
 module _ (rows : List Row) (s6 : S6 rows) where
+  -- A frame has a shown row.
+  pub shown-one : (i : ℕ) → i < length rows → (k : ℕ) × (k < length rows) × (frameAt rows k ≡ frameAt rows i) × So (isShown rows k)
+  shown-one i l =
+      let r = one-out _ (length rows) (s6 .one i l) .0 in
+      let t = simp and-eq-true-iff at (r .2) in
+      (r .0, r .1, eqb-true _ _ (t .0), t .1)
+
   -- A frame's first row is reached.
   first-reached : (i : ℕ) → i < length rows → isStep rows i ≡ false → So (reached rows i)
   first-reached i l f =
-      let r = one-out _ (length rows) (s6 .one i l) .0 in
-      let t = simp and-eq-true-iff at (r .2) in
-      let e = eqb-true _ _ (t .0) in
-      by-lt (r .0) i (λ b. absurd (clash (step-in (frameAt rows) b e) f)) (λ b. reach-in _ _ (isShown rows) b (r .1) e (t .1))
+      let r = shown-one i l in
+      by-lt (r .0) i (λ b. absurd (clash (step-in (frameAt rows) b (r .2)) f)) (λ b. reach-in _ _ (isShown rows) b (r .1) (r .2) (r .3))
 
   -- A frame has no second shown row.
   pub only-shown : (i k : ℕ) → i < length rows → k < length rows → frameAt rows k ≡ frameAt rows i → So (isShown rows i) → So (isShown rows k) → i ≡ k

@@ -1,15 +1,15 @@
 -- n places in order, fr telling their frames: at a position each frame shows one of its places, and that is all that S6 and S7 allow.
 -- Everything that the theory of rows needs, with no list in it. Assumes nothing.
-use Prim.Native.Nat.{ℕ, suc, _≤_, _<_, min}
+use Prim.Native.Nat.{ℕ, zero, suc, _≤_, _<_, min}
 use mathlib.Core.Path.{_≡_, refl, sym, ap, _∙_}
 use mathlib.Core.Bool.{Bool, false, not, _&&_, _||_, So, cond, and-eq-true-iff}
 use native.Mathlib.Omega.{arith}
 use lib.Dec.{ltb, eqb}
-use borrow.Author.Tests.{ltb-true, lt-ltb, le-ltb, leb-true, le-leb, eqb-true, eqb-false, eq-eqb, not-true}
+use borrow.Author.Tests.{ltb-true, lt-ltb, le-ltb, leb-true, le-leb, eqb-true, eqb-false, eq-eqb, ne-eqb, not-true}
 use Rattle.rules.specs.Below.{someBelow, count, earliest, latest}
 use Rattle.rules.specs.Steps.{same, step, reach}
 use Rattle.laws.proofs.Tests.{test, clash, off, same-tests, by-order, by-lt, some-in, some-out, count-in, count-le, count-mono, count-flat, count-same, count-first}
-use Rattle.laws.proofs.Tests.{one-in, greatest, least, earliest-is, latest-is}
+use Rattle.laws.proofs.Tests.{count-zero, count-yes, count-no, count-but, one-in, greatest, least, earliest-is, latest-is}
 
 -- Of n places, i passes q and no later place of its frame does.
 unfoldable pub last : ℕ → (ℕ → ℕ) → (ℕ → Bool) → ℕ → Bool
@@ -253,3 +253,20 @@ module _ (n : ℕ) (fr : ℕ → ℕ) where
       (λ t.
       rw t (same-tests (λ e. rw (eqb-true k i e) s) (λ m. eq-eqb k i (shows-same q i k a b (eqb-true _ _ t) s m))))
       (λ f. rw f (last-same (due fr p) (due fr q) k b (λ m c e. rest m (λ g. eqb-false _ _ f (sym e ∙ g)))))
+
+-- Where p passes at most one of a frame, and only of frames of which q passes one, p passes no more than q.
+pub no-more : (n m : ℕ) (fr : ℕ → ℕ) (p q : ℕ → Bool) → ((i : ℕ) → i < n → So (p i) → (k : ℕ) × (k < m) × (fr k ≡ fr i) × So (q k)) →
+    ((i j : ℕ) → i < j → j < n → fr i ≡ fr j → So (p i) → So (p j) → ⊥) → count p n ≤ count q m
+no-more zero m fr p q to apart = omega (arith, count-zero p)
+no-more (suc n) m fr p q to apart =
+    test (p n)
+    (λ t.
+    let x = to n (omega arith) t in
+    let less = no-more n m fr p (λ k. not (eqb k (x .0)) && q k)
+    (λ i l s.
+    let k = to i (omega arith) s in
+    let ne = ne-eqb (k .0) (x .0) (λ e. apart i n l (omega arith) (sym (k .2) ∙ ap fr e ∙ x .2) s t) in
+    (k .0, k .1, k .2, rw ne (k .3)))
+    (λ i j a b. apart i j a (omega arith)) in
+    omega (arith, count-yes p n t, count-but q m (x .0) (x .1) (x .3)))
+    (λ f. omega (arith, count-no p n f, no-more n m fr p q (λ i l. to i (omega arith)) (λ i j a b. apart i j a (omega arith))))

@@ -5,7 +5,7 @@ use mathlib.Core.List.{List}
 use mathlib.Core.Bool.{Bool, false, not, _&&_, So, and-eq-true-iff}
 use native.Mathlib.Omega.{arith}
 use lib.ListN.{length}
-use Rattle.rules.specs.Below.{count, gather}
+use Rattle.rules.specs.Below.{count, latest, gather}
 use Rattle.rules.specs.Rows.{Row, noRow, rowAt, frameAt, marked}
 use Rattle.rules.specs.Steps.{step, isStep, reached, taken, position, steps}
 use Rattle.rules.specs.Sound.{S6}
@@ -22,6 +22,14 @@ count-kept keep p q zero h = refl
 count-kept keep p q (suc n) h =
     let ih = count-kept keep p q n (λ k l. h k (omega arith)) in
     test (keep n) (λ t. rw (t, h n (omega arith) t, ih) refl) (λ f. rw f ih)
+
+-- So does the latest that passes.
+pub latest-kept : (keep p q : ℕ → Bool) (n : ℕ) → ((k : ℕ) → k < n → So (keep k) → q (count keep k) ≡ p k) → latest q (count keep n) ≡ count keep (latest (λ k. keep k && p k) n)
+unfolding count latest
+latest-kept keep p q zero h = refl
+latest-kept keep p q (suc n) h =
+    let ih = latest-kept keep p q n (λ k l. h k (omega arith)) in
+    test (keep n) (λ t. rw (t, h n (omega arith) t) (test (p n) (λ u. rw u refl) (λ u. rw u ih))) (λ f. rw f ih)
 
 -- The kept ones of the first p steps.
 unfoldable pub dueKept : ℕ → (ℕ → ℕ) → (ℕ → Bool) → ℕ → ℕ

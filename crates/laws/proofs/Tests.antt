@@ -7,10 +7,10 @@ use mathlib.Core.Bool.{Bool, true, false, not, _&&_, _||_, So, false≢true, con
 use native.Mathlib.Nat.{eq-or-lt-of-le, le-of-suc-le-suc, not-suc-le-zero}
 use native.Mathlib.Numerals.{add-one}
 use native.Mathlib.Omega.{arith}
-use lib.Dec.{ltb}
+use lib.Dec.{eqb, ltb}
 use lib.ListN.{length, getD, length-append, List·getD-append}
 use lib.Seq.{getD-at, ext-getD}
-use borrow.Author.Tests.{ltb-true, ltb-false}
+use borrow.Author.Tests.{ltb-true, ltb-false, eqb-true, eq-eqb}
 use Rattle.rules.specs.Below.{someBelow, allBelow, count, earliest, latest, tab, gather}
 
 -- A TEST
@@ -283,6 +283,23 @@ module _ (p : ℕ → Bool) where
       let k = some-out p n s in
       let g = greatest n (k .1) (k .2) in
       rw (latest-is n (g .2) (g .3) (g .4)) (g .2, g .3)
+
+-- Where none passes the latest is 0.
+pub latest-none : (p : ℕ → Bool) (n : ℕ) → ((k : ℕ) → k < n → p k ≡ false) → latest p n ≡ 0
+unfolding latest
+latest-none p zero none = refl
+latest-none p (suc n) none = rw (none n (omega arith)) (latest-none p n (λ k l. none k (omega arith)))
+
+pub latest-most : (p : ℕ → Bool) (n : ℕ) → latest p n ≤ n
+unfolding latest
+latest-most p zero = omega arith
+latest-most p (suc n) = let ih = latest-most p n in test (p n) (λ t. rw t (omega arith)) (λ f. rw f (omega arith))
+
+-- Without x, which passes, one less does.
+pub count-but : (q : ℕ → Bool) (m x : ℕ) → x < m → So (q x) → count q m ≡ suc (count (λ k. not (eqb k x) && q k) m)
+count-but q m x l s =
+    let e = one-in (λ k. eqb k x && q k) m x l (simp and-eq-true-iff (eq-eqb x x refl, s)) (λ i a t. eqb-true i x ((simp and-eq-true-iff at t) .0)) in
+    omega (arith, count-split (λ k. eqb k x) q m)
 
 -- Tests that agree on the numbers below n have the same latest one.
 pub latest-same : (p q : ℕ → Bool) (n : ℕ) → ((k : ℕ) → k < n → p k ≡ q k) → latest p n ≡ latest q n

@@ -9,7 +9,7 @@ use lib.ListN.{getD}
 use Rattle.rules.specs.Windows.{isRoot}
 use Rattle.rules.specs.Words.{rowsOf, written}
 use Rattle.rules.specs.Calls.{Call, Outcome, windowIn, outcome}
-use Rattle.windows.proofs.Answers.{Twins, twins-position, twins-lists}
+use Rattle.windows.proofs.Answers.{Twins, twins-lists}
 use Rattle.sound.specs.Check.{Examined}
 use Rattle.sound.specs.Survey.{alone?, standOf, Located}
 use Rattle.sound.specs.declared.Stand.{Stand}
@@ -33,8 +33,5 @@ module _ (words : List ℕ) (e : Examined words) (fits : Fits w32 (getD words 1 
   twins = own-twins words e (next-word words fits) r rooted own taken
 
   -- What the one answers, the other does.
-  pub position-own : {o : Outcome} → outcome (Call.Position own r) ≡ o → outcome (Call.Position words r) ≡ o
-  position-own h = twins-position r words own twins ∙ h
-
   pub lists-own : (takens upcomings : List ℕ) {o : Outcome} → outcome (Call.Lists own r takens upcomings) ≡ o → outcome (Call.Lists words r takens upcomings) ≡ o
   lists-own takens upcomings h = twins-lists r words own twins takens upcomings ∙ h

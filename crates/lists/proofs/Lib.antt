@@ -1,4 +1,5 @@
 pub mod Alone
 pub mod Among
+pub mod Tallies
 pub mod Answered
 pub mod Listing

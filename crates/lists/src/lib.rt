@@ -1,20 +1,24 @@
-// Position and Lists: the questions that name a window by its root frame. In a record of several, the window is first taken out into a record of its own.
+// Position and Lists: the questions that name a window by its root frame. In a record of several, Position counts the window's flags in one walk, and Lists first takes the
+// window out into a record of its own.
 use base::DocNo;
 use base::FrameNo;
 use base::Refusal;
 use base::RowPlace;
+use members::Known;
 use sound::Stand;
 use sound::Survey;
 ghost use mathlib.Core.Path.{_≡_};
 ghost use mathlib.Core.List.{[], _∷_};
 ghost use lib.ListN.{length};
-ghost use Prim.Native.Nat.{_-_, _≤_, _<_, max};
+ghost use Prim.Native.Nat.{_+_, _-_, _≤_, _<_, max};
 ghost use Rattle.rules.specs.Words.{rowsOf};
 ghost use Rattle.rules.specs.Calls.{Call, outcome};
+ghost use Rattle.reads.specs.Within.{Within};
 ghost use Rattle.sound.specs.Check.{Examined};
 ghost use Rattle.extracts.specs.Windows.{FirstOther};
 ghost use Rattle.sound.specs.Survey.{Located};
 ghost use Rattle.lists.specs.Answers.{standingIs, listedIs};
+ghost use Rattle.lists.specs.Tallies.{Tallies};
 ghost use Rattle.lists.specs.Listing.{takenWith, upcomingWith, Begun, TakensTo, TakensFrom, UpcomingsTo, UpcomingsFrom};
 
 // Where the window stands: position, steps, and the length for scripts.
@@ -34,18 +38,72 @@ fn position_alone(words: &[u32], s: Stand, root: FrameNo) -> Standing
     Standing::At(s.position, s.steps, s.steps + 1)
 }
 
-// The same in a sound record of several, of which the first row of another root frame is told, by the window's own record.
-fn position_among(words: &[u32], root: FrameNo, first: RowPlace) -> Standing
-    requires { ⌜ Examined (now words) × FirstOther (rowsOf (now words)) (root .0) (first .0) ⌝ }
+// What a walk over the rows has counted of a window: its hidden rows, which are as many as its steps, how many of them came before its latest shown step, which are its taken ones, and what is
+// known of the window.
+struct Tally {
+    hidden: usize,
+    taken: usize,
+    known: Known,
+}
+
+// The tally with one row more.
+fn tally_row(words: &[u32], at: RowPlace, root: FrameNo, t: Tally) -> Tally
+    requires { ⌜ Within (now words) (at .0) × Tallies (root .0) (rowsOf (now words)) (at .0) t ⌝ }
+    ensures { λ r. ⌜ Tallies (root .0) (rowsOf (now (words .entry))) (at .0 + 1) r ⌝ }
+{
+    let m = members::belongs(words, at, root, t.known);
+    let known = m.known;
+    if !m.inside {
+        return Tally {
+            hidden: t.hidden,
+            taken: t.taken,
+            known,
+        };
+    }
+    if sound::is_shown_step(words, at) {
+        return Tally {
+            hidden: t.hidden,
+            taken: t.hidden,
+            known,
+        };
+    }
+    let hidden = !reads::is_shown(words, at);
+    Tally {
+        hidden: t.hidden + hidden as usize,
+        taken: t.taken,
+        known,
+    }
+}
+
+// The tally of a window of a sound record.
+fn count_window(words: &[u32], root: FrameNo) -> Tally
+    requires { ⌜ Examined (now words) ⌝ }
+    ensures { λ r. ⌜ Tallies (root .0) (rowsOf (now (words .entry))) (length (rowsOf (now (words .entry)))) r ⌝ }
+{
+    let n = rows::row_count(words);
+    let mut t = Tally {
+        hidden: 0,
+        taken: 0,
+        known: members::nothing_known(),
+    };
+    let mut i = 0;
+    while i < n {
+        t = tally_row(words, RowPlace(i), root, t);
+        i += 1;
+    }
+    t
+}
+
+// Position, steps and length of a window in a sound record of several.
+fn position_among(words: &[u32], root: FrameNo) -> Standing
+    requires { ⌜ Examined (now words) ⌝ }
     ensures { λ r. ⌜ outcome (Call.Position (now (words .entry)) (root .0)) ≡ record { answer = standingIs r; lent = [] } ⌝ }
 {
     if !extracts::has_root(words, root) {
         return Standing::Refused(Refusal::NoRoot);
     }
-    let mut own = [0u32; 2051];
-    extracts::take_out(words, root, first, &mut own);
-    let s = extracts::stand_alone(&own);
-    position_alone(&own, s, root)
+    let t = count_window(words, root);
+    Standing::At(t.taken, t.hidden, t.hidden + 1)
 }
 
 // Position, steps and length of a window.
@@ -55,12 +113,7 @@ pub fn position(words: &[u32], root: FrameNo) -> Standing
     match sound::locate(words) {
         Survey::No(r) => Standing::Refused(r),
         Survey::Stands(s) => position_alone(words, s, root),
-        Survey::Several => {
-            if extracts::is_first(words, root) {
-                return position_among(words, root, extracts::first_other(words, root));
-            }
-            position_among(words, root, RowPlace(0))
-        }
+        Survey::Several => position_among(words, root),
     }
 }
 

@@ -22,7 +22,8 @@ use Rattle.reads.specs.declared.Found.{Found}
 use Rattle.reads.specs.declared.Found.the-variants.{At, Nothing}
 use Rattle.sound.specs.Quick.{comesIn}
 use Rattle.sound.proofs.Calm.{own-after, own-first}
-use Rattle.sound.proofs.Quick.{upcoming-comes, comes-upcoming, shown-one, comes-of, comes-whose}
+use Rattle.laws.proofs.Central.{shown-one}
+use Rattle.sound.proofs.Quick.{upcoming-comes, comes-upcoming, comes-of, comes-whose}
 
 -- Where it may start, by whether the row is a step.
 module _ (rows : List Row) (i f : ℕ) (r : Found) (e : f ≡ frameAt rows i) (g : r ≡ foundBelow (inFrame rows f) i) where

@@ -6,7 +6,7 @@ use mathlib.Core.Logic.{inl, inr}
 use mathlib.Core.Path.{_≡_, refl, sym, ap, subst, _∙_}
 use native.Mathlib.Omega.{arith}
 use lib.ListN.{length}
-use borrow.Author.Tests.{ltb-false, eq-eqb, ne-eqb}
+use borrow.Author.Tests.{ltb-false, eq-eqb, ne-eqb, ltb-true}
 use Rattle.base.specs.declared.Refusal.{Refusal}
 use Rattle.base.specs.declared.Refusal.the-variants.{ShortRecord, Unsound}
 use Rattle.base.specs.Numbers.{numberOf, carriedBy}
@@ -71,15 +71,18 @@ found rows = cond (alone? rows) (Stands (standOf rows)) Several
 
 module _ (rows : List Row) (p : Pass) (w : Passed rows (length rows) p) where
   -- One row begins a window: there is one, and the answer is where it stands.
-  pub alone-so : p .roots ≡ 1 → So (alone? rows)
-  alone-so e = eq-eqb _ _ (sym (w .roots-are) ∙ e)
+  pub one-root : p .several ≡ false → count (begins rows) (length rows) ≡ 1
+  one-root f = omega (arith, w .some-root, ltb-false 1 (count (begins rows) (length rows)) (sym (w .several-is) ∙ f))
 
-  pub found-one : p .roots ≡ 1 → Stands (standOf rows) ≡ found rows
-  found-one e = rw (alone-so e) refl
+  pub alone-so : p .several ≡ false → So (alone? rows)
+  alone-so f = eq-eqb _ _ (one-root f)
 
-  -- Not just one does: there are several.
-  pub found-several : (p .roots ≡ 1 → ⊥) → Several ≡ found rows
-  found-several ne = rw (ne-eqb (count (begins rows) (length rows)) 1 (λ e. ne (w .roots-are ∙ e))) refl
+  pub found-one : p .several ≡ false → Stands (standOf rows) ≡ found rows
+  found-one f = rw (alone-so f) refl
+
+  -- Several do.
+  pub found-several : p .several ≡ true → Several ≡ found rows
+  found-several t = rw (ne-eqb (count (begins rows) (length rows)) 1 (λ e. omega (arith, ltb-true 1 (count (begins rows) (length rows)) (sym (w .several-is) ∙ t)))) refl
 
 -- It is no refusal.
 found-fine : (rows : List Row) (a : Refusal) → found rows ≡ Survey·No a → ⊥

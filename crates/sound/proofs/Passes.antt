@@ -1,5 +1,5 @@
 -- What the pass of the test tells, in the code's shape. Assumes nothing.
-use Prim.Native.Nat.{ℕ, _+_, _-_, _*_, _≤_, _<_, max}
+use Prim.Native.Nat.{ℕ, suc, _+_, _-_, _*_, _≤_, _<_, max}
 use mathlib.Core.Bool.{Bool, true, false, not, _&&_, _||_, So, cond, false≢true, and-eq-true-iff}
 use mathlib.Core.Logic.{⊎-elim}
 use mathlib.Core.List.{List}
@@ -104,7 +104,7 @@ module _ (rows : List Row) where
   breaks k = not (quiet rows k)
 
   pub passed-start : (s : ℕ) (high : FrameNo) (known : DocNo) → s ≡ shownAt rows 0 → shownAt rows 0 ≤ 1 → parentAt rows 0 ≡ none → high .0 ≡ frameAt rows 0 → known .0 ≡ docAt rows 0 →
-      Passed rows 1 (record { late = false; broken = false; shown = s; frames = 1; roots = 1; high = high; known = known; upcoming = record { 0 = 0 }; begun = 0; last = record { 0 = 0 } })
+      Passed rows 1 (record { late = false; broken = false; several = false; shown = s; frames = 1; high = high; known = known; upcoming = record { 0 = 0 }; begun = 0; last = record { 0 = 0 } })
   unfolding someBelow count earliest latest comes quiet begins step
   passed-start s high known a l z c d =
       record {
@@ -112,10 +112,10 @@ module _ (rows : List Row) where
         broken-is = refl;
         shown-are = a ∙ bit-is rows 0 l ∙ test (isShown rows 0) (λ t. rw t refl) (λ t. rw t refl);
         frames-are = refl;
-        roots-are = rw (eq-eqb (parentAt rows 0) none z) refl;
+        several-is = rw (eq-eqb (parentAt rows 0) none z) refl;
+        some-root = rw (eq-eqb (parentAt rows 0) none z) (omega arith);
         few-shown = omega arith;
         few-frames = omega arith;
-        few-roots = omega arith;
         under = λ k l. let e : k ≡ 0 = omega arith in rw e (omega arith);
         known-is = eq-eqb (docAt rows 0) (known .0) (sym d);
         upcoming-is = λ t. absurd (false≢true t);
@@ -169,10 +169,10 @@ module _ (rows : List Row) where
               broken-is = some-or breaks i (p .broken) (not (eqb s 0)) (r .broken-is) (flag-set rows i s e (o .bit) ∙ sym loud);
               shown-are = shown-more s e;
               frames-are = r .frames-are ∙ sym same-frames;
-              roots-are = r .roots-are ∙ sym same-roots;
+              several-is = r .several-is ∙ ap (ltb 1) (sym same-roots);
+              some-root = omega (arith, r .some-root, same-roots);
               few-shown = omega (arith, r .few-shown, o .bit);
               few-frames = omega (arith, r .few-frames);
-              few-roots = omega (arith, r .few-roots);
               under = under-step (frameAt rows) i (p .high .0) (r .under) (w .step);
               known-is = some-grows (isDoc rows (p .known .0)) i (r .known-is);
               upcoming-is = λ t. u;
@@ -199,9 +199,9 @@ module _ (rows : List Row) where
             TellsTo rows (i + 1) (linked rows i) (Holds (record {
               late = false;
               broken = p .broken;
+              several = p .several;
               shown = p .shown + s;
               frames = p .frames;
-              roots = p .roots;
               high = p .high;
               known = p .known;
               upcoming = p .upcoming;
@@ -217,10 +217,10 @@ module _ (rows : List Row) where
                 broken-is = sym (or-false (p .broken)) ∙ some-or breaks i (p .broken) false (r .broken-is) (sym still);
                 shown-are = shown-more s e;
                 frames-are = r .frames-are ∙ sym same-frames;
-                roots-are = r .roots-are ∙ sym same-roots;
+                several-is = r .several-is ∙ ap (ltb 1) (sym same-roots);
+                some-root = omega (arith, r .some-root, same-roots);
                 few-shown = omega (arith, r .few-shown, o .bit);
                 few-frames = omega (arith, r .few-frames);
-                few-roots = omega (arith, r .few-roots);
                 under = under-step (frameAt rows) i (p .high .0) (r .under) (w .step);
                 known-is = some-grows (isDoc rows (p .known .0)) i (r .known-is);
                 upcoming-is = λ t. absurd (false≢true t);
@@ -238,14 +238,25 @@ module _ (rows : List Row) where
       pub first-lost : v ≡ false → linked rows i ≡ false
       first-lost t = linked-first ∙ t
 
+      -- With a root frame more there are several.
+      roots-more : (root : Bool) → begins rows i ≡ root → ((p .several || root) ≡ ltb 1 (count (begins rows) (i + 1))) × (1 ≤ count (begins rows) (i + 1))
+      roots-more root e =
+          rw (add-one i) (test root
+          (λ t.
+          let more = count-yes (begins rows) i (e ∙ t) in
+          (or-right (p .several) t ∙ sym (lt-ltb 1 (count (begins rows) (suc i)) (omega (arith, r .some-root))), omega (arith, r .some-root)))
+          (λ t.
+          let same = count-no (begins rows) i (e ∙ t) in
+          (rw t (or-false (p .several) ∙ r .several-is ∙ ap (ltb 1) (sym same)), omega (arith, r .some-root))))
+
       pub first-found : (s u : ℕ) (root : Bool) (high : FrameNo) (known : DocNo) → v ≡ true → s ≡ shownAt rows i → u ≡ parentAt rows i → root ≡ eqb u none →
           high .0 ≡ max (p .high .0) (frameAt rows i) → known .0 ≡ cond root (p .known .0) u →
           TellsTo rows (i + 1) (linked rows i) (Holds (record {
             late = p .late;
             broken = p .broken;
+            several = p .several || root;
             shown = p .shown + s;
             frames = p .frames + 1;
-            roots = p .roots + boolByte root;
             high = high;
             known = known;
             upcoming = p .upcoming;
@@ -256,6 +267,7 @@ module _ (rows : List Row) where
       first-found s u root high known t e up top g h =
           let late : p .late ≡ someBelow (i + 1) (comes rows) = sym (or-false (p .late)) ∙ some-or (comes rows) i (p .late) false (r .late-is) (rw n refl) in
           let more = ap (count opens) (add-one i) ∙ count-yes opens i (rw n refl) in
+          let roots = roots-more root (sym (top ∙ rw (n, up) refl)) in
           let stays : p .late ≡ true → earliest (comes rows) (i + 1) ≡ earliest (comes rows) i = λ t. earliest-stays (comes rows) i (sym late ∙ t) in (
             linked-first ∙ t,
             record {
@@ -263,10 +275,10 @@ module _ (rows : List Row) where
               broken-is = sym (or-false (p .broken)) ∙ some-or breaks i (p .broken) false (r .broken-is) (rw n refl);
               shown-are = shown-more s e;
               frames-are = omega (arith, r .frames-are, more);
-              roots-are = count-more (begins rows) i (p .roots) root (r .roots-are) (top ∙ rw (n, up) refl);
+              several-is = roots .0;
+              some-root = roots .1;
               few-shown = omega (arith, r .few-shown, o .bit);
               few-frames = omega (arith, r .few-frames);
-              few-roots = test root (λ t. rw t (omega (arith, r .few-roots))) (λ t. rw t (omega (arith, r .few-roots)));
               under = under-more (frameAt rows) i (p .high .0) (high .0) (r .under) g;
               known-is = some-grows (isDoc rows (known .0)) i (test root
                   (λ y. rw (h, y) (r .known-is))

@@ -16,39 +16,15 @@ use Rattle.rules.specs.Moves.{rowBefore}
 use Rattle.rules.specs.Windows.{rootAt}
 use Rattle.rules.specs.Sound.{S1, S2, S4, S5, S6, S7, s1?, SoundTable, soundTable?}
 use Rattle.laws.proofs.Tests.{test, clash, off, same-tests, by-lt, by-order, some-in, some-out}
-use Rattle.laws.proofs.Tests.{count-zero, count-yes, count-no, count-split, one-in, one-out, least, latest-is, latest-out}
-use Rattle.laws.proofs.Frames.{step-in, step-out, first, reach-in, reach-out}
-use Rattle.laws.proofs.Central.{only-shown}
+use Rattle.laws.proofs.Tests.{count-but, one-in, one-out, least, latest-is, latest-out}
+use Rattle.laws.proofs.Frames.{step-in, step-out, first, reach-in, reach-out, no-more}
+use Rattle.laws.proofs.Central.{only-shown, shown-one}
+use Rattle.laws.proofs.Hidden.{shown-even}
 use Rattle.laws.proofs.Loops.{earliest-out, earliest-in}
 use Rattle.laws.proofs.Reflect.{Ref, ref-lt, ref-le, ref-eq, ref-so, ref-map, ref-and, ref-or, ref-all, ref-any, s2-is, sound-table-is}
 use Rattle.laws.proofs.Tree.{TreeOf, OneRoot}
 use Rattle.windows.proofs.Roots.{root-frame, root-one}
 use Rattle.sound.specs.Quick.{headed, linked, comes, comesIn, quiet, calm, begins, rowFine, kept?, quick?}
-
--- HOW MANY
-
--- Without x, which passes, one less does.
-count-but : (q : ℕ → Bool) (m x : ℕ) → x < m → So (q x) → count q m ≡ suc (count (λ k. not (eqb k x) && q k) m)
-count-but q m x l s =
-    let e = one-in (λ k. eqb k x && q k) m x l (simp and-eq-true-iff (eq-eqb x x refl, s)) (λ i a t. eqb-true i x ((simp and-eq-true-iff at t) .0)) in
-    omega (arith, count-split (λ k. eqb k x) q m)
-
--- Where p passes at most one of a frame, and only of frames of which q passes one, p passes no more than q.
-no-more : (n m : ℕ) (fr : ℕ → ℕ) (p q : ℕ → Bool) → ((i : ℕ) → i < n → So (p i) → (k : ℕ) × (k < m) × (fr k ≡ fr i) × So (q k)) →
-    ((i j : ℕ) → i < j → j < n → fr i ≡ fr j → So (p i) → So (p j) → ⊥) → count p n ≤ count q m
-no-more zero m fr p q to apart = omega (arith, count-zero p)
-no-more (suc n) m fr p q to apart =
-    test (p n)
-    (λ t.
-    let x = to n (omega arith) t in
-    let less = no-more n m fr p (λ k. not (eqb k (x .0)) && q k)
-    (λ i l s.
-    let k = to i (omega arith) s in
-    let ne = ne-eqb (k .0) (x .0) (λ e. apart i n l (omega arith) (sym (k .2) ∙ ap fr e ∙ x .2) s t) in
-    (k .0, k .1, k .2, rw ne (k .3)))
-    (λ i j a b. apart i j a (omega arith)) in
-    omega (arith, count-yes p n t, count-but q m (x .0) (x .1) (x .3)))
-    (λ f. omega (arith, count-no p n f, no-more n m fr p q (λ i l. to i (omega arith)) (λ i j a b. apart i j a (omega arith))))
 
 -- THE ROW BEFORE
 
@@ -134,7 +110,7 @@ module _ (rows : List Row) where
         h (u .0 .0) (u .0 .1) (k .0) (omega arith) (k .2))),
   )
 
-  calm-is : (i : ℕ) → Ref (calm rows i) (So (isStep rows i) → So (isShown rows i) → (k : ℕ) → k ≤ i → So (comesIn (rootAt rows i) rows k) → ⊥)
+  pub calm-is : (i : ℕ) → Ref (calm rows i) (So (isStep rows i) → So (isShown rows i) → (k : ℕ) → k ≤ i → So (comesIn (rootAt rows i) rows k) → ⊥)
   unfolding calm
   calm-is i = silent-is (comesIn (rootAt rows i) rows) i
 
@@ -200,13 +176,6 @@ module _ (rows : List Row) (s6 : S6 rows) where
       let z = s7 .later k i (omega arith) l (w .1) (comes-upcoming k (omega arith) (w .0)) s t in
       omega arith)
 
-  -- A frame's shown row.
-  pub shown-one : (i : ℕ) → i < length rows → Shown rows i
-  shown-one i l =
-      let r = one-out _ (length rows) (s6 .one i l) .0 in
-      let t = simp and-eq-true-iff at (r .2) in
-      (r .0, r .1, eqb-true _ _ (t .0), t .1)
-
   -- The first row that comes is the first upcoming step.
   pub comes-start : earliest (comes rows) (length rows) ≡ earliest (upcoming rows) (length rows)
   comes-start =
@@ -216,21 +185,8 @@ module _ (rows : List Row) (s6 : S6 rows) where
         within = w;
         passes = λ l. comes-upcoming (earliest (comes rows) (length rows)) l (o .passes l);
         none-before = λ m l. off (upcoming rows m) (λ t.
-            let c = upcoming-comes rows m t (shown-one m (omega arith)) in clash (c .2) (o .none-before (c .0) (omega arith)));
+            let c = upcoming-comes rows m t (shown-one rows s6 m (omega arith)) in clash (c .2) (o .none-before (c .0) (omega arith)));
       })
-
-  -- Each frame's first row stands against its shown one.
-  sound-even : Even rows
-  sound-even =
-      let n = length rows in
-      let fr = frameAt rows in
-      let a = no-more n n fr (isShown rows) (λ i. not (isStep rows i))
-      (λ i l s. let r = first fr i in (r .0, omega arith, r .2, rw (r .3) refl))
-      (λ i j l m e s t. let q = only-shown rows s6 i j (omega arith) m (sym e) s t in omega arith) in
-      let b = no-more n n fr (λ i. not (isStep rows i)) (isShown rows)
-      (λ i l s. shown-one i l)
-      (λ i j l m e s t. clash (step-in fr l e) (not-true _ t)) in
-      omega arith
 
 -- Of a tree with one root frame one row begins a window: the first.
 pub one-begins : (rows : List Row) {a b : ℕ} → TreeOf rows a b → OneRoot rows → 1 ≤ length rows → count (begins rows) (length rows) ≡ 1
@@ -351,14 +307,16 @@ kept-tree t w m =
       kin = quick-S5 rows (λ i l. m .0 .0 i l .link) .kin;
     }
 
+pub tree-kept : (t : Table) → t .nextDoc ≤ none → So (kept? (t .rows) (t .nextDoc) (t .nextFrame)) → TreeOf (t .rows) (t .nextDoc) (t .nextFrame)
+tree-kept t w k = kept-tree t w (kept-means (t .rows) (t .nextDoc) (t .nextFrame) .0 k)
+
 -- Where one row begins a window and the rest is kept, calm is quiet.
 pub alone-quiet : (t : Table) → t .nextDoc ≤ none → So (kept? (t .rows) (t .nextDoc) (t .nextFrame)) → count (begins (t .rows)) (length (t .rows)) ≡ 1 →
     (i : ℕ) → i < length (t .rows) → So (calm (t .rows) i) → So (quiet (t .rows) i)
 alone-quiet t w k e =
-    let rows = t .rows in
-    let m = kept-means rows (t .nextDoc) (t .nextFrame) .0 k in
-    let one = begins-one rows (λ i l. m .0 .0 i l .link) e in
-    calm-quiet rows (λ i l j n. root-one rows (kept-tree t w m) one i j l n)
+    let m = kept-means (t .rows) (t .nextDoc) (t .nextFrame) .0 k in
+    let one = begins-one (t .rows) (λ i l. m .0 .0 i l .link) e in
+    calm-quiet (t .rows) (λ i l j n. root-one (t .rows) (tree-kept t w k) one i j l n)
 
 quick-sound : {room : ℕ} (t : Table) → S1 room (t .rows) → t .nextDoc ≤ none → So (quick? (t .rows) (t .nextDoc) (t .nextFrame)) → SoundTable room t
 quick-sound t s1 w q =
@@ -382,7 +340,7 @@ sound-quick {t = t} s =
       (
         (
           λ i l. record { framed = s .s3 .below i l; bit = s .s6 .bit i l; link = sound-linked (t .rows) (s .s4) (s .s5) i l },
-          sound-even (t .rows) (s .s6),
+          shown-even (t .rows) (s .s6),
         ),
         s .s2,
       ),

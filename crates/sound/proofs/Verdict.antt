@@ -18,6 +18,7 @@ use Rattle.sound.specs.declared.Pass.{Pass}
 use Rattle.sound.specs.declared.Tested.{Tested}
 use Rattle.sound.specs.declared.Tested.the-variants.{Fails, Holds}
 use Rattle.sound.proofs.Quick.{quiet-calm, alone-quiet, quick-is}
+use Rattle.sound.proofs.Checks.{one-root}
 
 -- What was tested, by what the code found.
 module _ (rows : List Row) (i : ℕ) (b : Bool) (r : Tested) (told : TellsTo rows i b r) where
@@ -37,11 +38,11 @@ module _ (rows : List Row) (p : Pass) (w : Passed rows (length rows) p) where
       quiet-calm rows i (test (quiet rows i) (λ t. t) (λ t. absurd (clash (some-in (λ k. not (quiet rows k)) (length rows) l (rw t refl)) (sym (w .broken-is) ∙ f))))))
 
   -- Some does, and there is one window.
-  pub order-alone : (nextDoc nextFrame : ℕ) → nextDoc ≤ none → So (kept? rows nextDoc nextFrame) → p .broken ≡ true → p .roots ≡ 1 → false ≡ allBelow (length rows) (calm rows)
+  pub order-alone : (nextDoc nextFrame : ℕ) → nextDoc ≤ none → So (kept? rows nextDoc nextFrame) → p .broken ≡ true → p .several ≡ false → false ≡ allBelow (length rows) (calm rows)
   order-alone nextDoc nextFrame word k t e =
       sym (off (allBelow (length rows) (calm rows)) (λ h.
       let o = some-out (λ k. not (quiet rows k)) (length rows) (sym (w .broken-is) ∙ t) in
-      clash (alone-quiet (record { rows = rows; nextDoc = nextDoc; nextFrame = nextFrame }) word k (sym (w .roots-are) ∙ e) (o .0) (o .1) (all-out (calm rows) (length rows) h (o .0) (o .1))) (not-true _ (o .2))))
+      clash (alone-quiet (record { rows = rows; nextDoc = nextDoc; nextFrame = nextFrame }) word k (one-root rows p w e) (o .0) (o .1) (all-out (calm rows) (length rows) h (o .0) (o .1))) (not-true _ (o .2))))
 
 -- S2 TO S7, BY S2 TO S6 AND BY S7
 

@@ -1,4 +1,5 @@
 pub mod Quick
 pub mod Pass
+pub mod Looks
 pub mod Check
 pub mod Survey

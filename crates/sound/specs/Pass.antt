@@ -3,7 +3,7 @@ use Prim.Native.Nat.{ℕ, _+_, _≤_, _<_}
 use mathlib.Core.Bool.{Bool, true, false, not, _||_, So}
 use mathlib.Core.List.{List}
 use mathlib.Core.Path.{_≡_}
-use lib.Dec.{eqb}
+use lib.Dec.{eqb, ltb}
 use lib.ListN.{length}
 use Rattle.base.specs.declared.RowPlace.{RowPlace}
 use Rattle.rules.specs.Below.{someBelow, allBelow, count, earliest, latest}
@@ -22,10 +22,10 @@ pub record Passed (rows : List Row) (i : ℕ) (p : Pass) : Type 0 where
   pub broken-is : p .broken ≡ someBelow i (λ k. not (quiet rows k))
   pub shown-are : p .shown ≡ count (isShown rows) i
   pub frames-are : p .frames ≡ count (λ k. not (isStep rows k)) i
-  pub roots-are : p .roots ≡ count (begins rows) i
+  pub several-is : p .several ≡ ltb 1 (count (begins rows) i)
+  pub some-root : 1 ≤ count (begins rows) i
   pub few-shown : p .shown ≤ i
   pub few-frames : p .frames ≤ i
-  pub few-roots : p .roots ≤ i
   pub under : Under (frameAt rows) i (p .high .0)
   pub known-is : someBelow i (isDoc rows (p .known .0)) ≡ true
   pub upcoming-is : p .late ≡ true → p .upcoming .0 ≡ earliest (comes rows) i
@@ -59,9 +59,9 @@ lateOf s upcoming begun p =
     record {
       late = true;
       broken = p .broken || not (eqb s 0);
+      several = p .several;
       shown = p .shown + s;
       frames = p .frames;
-      roots = p .roots;
       high = p .high;
       known = p .known;
       upcoming = upcoming;

@@ -14,10 +14,12 @@ use base::DocNo;
 use base::FrameNo;
 use base::Refusal;
 use base::RowPlace;
+use members::Known;
+use members::Member;
 use reads::Found;
 use reads::NONE;
 ghost use mathlib.Core.Path.{_≡_};
-ghost use mathlib.Core.Bool.{true, false, cond};
+ghost use mathlib.Core.Bool.{true, false, So, cond};
 ghost use Prim.Native.Nat.{_+_, _-_, _<_, _≤_, min, max};
 ghost use lib.ListN.{length};
 ghost use Rattle.rules.specs.Below.{someBelow, allBelow};
@@ -27,19 +29,23 @@ ghost use Rattle.rules.specs.Words.{capacity, tableOf, rowsOf};
 ghost use Rattle.rules.specs.Sound.{s2?, s8?, sound?};
 ghost use Rattle.rules.specs.Calls.{short};
 ghost use Rattle.reads.specs.Within.{Within};
+ghost use Rattle.windows.proofs.Counted.{shownStepIn};
+ghost use Rattle.laws.proofs.Hidden.{shownStep};
+ghost use Rattle.members.specs.Members.{Kin, Recalls};
 ghost use Rattle.sound.specs.Quick.{bounded, headed, linked, comes, comesIn, calm, rowFine, kept?, quick?, Kept, ordered, alone, Spans};
+ghost use Rattle.sound.specs.Looks.{stepFrom, Sees, Looks};
 ghost use Rattle.sound.specs.Pass.{Passed, Onward, StepAfter, TellsTo, Tells, lateOf};
 ghost use Rattle.sound.specs.Check.{checkOf};
 ghost use Rattle.sound.specs.Survey.{alone?, standOf, surveyOf};
 
-// What a pass knows of the rows behind it: some upcoming, a shown step after an upcoming one, how many shown, how many frames, how many of them root frames, a bound on the
+// What a pass knows of the rows behind it: some upcoming, a shown step after an upcoming one, several root frames, how many shown, how many frames, a bound on the
 // frame numbers, the parent found last; of the first upcoming one its place and how many frames had begun before it; and the latest step before that.
 pub struct Pass {
     pub late: bool,
     pub broken: bool,
+    pub several: bool,
     pub shown: usize,
     pub frames: usize,
-    pub roots: usize,
     pub high: FrameNo,
     pub known: DocNo,
     pub upcoming: RowPlace,
@@ -154,9 +160,9 @@ fn pass_start(words: &[u32]) -> Pass
     Pass {
         late: false,
         broken: false,
+        several: false,
         shown,
         frames: 1,
-        roots: 1,
         high,
         known,
         upcoming: RowPlace(0),
@@ -176,9 +182,9 @@ fn pass_late(shown: u32, upcoming: RowPlace, begun: usize, p: Pass) -> Pass
     Pass {
         late: true,
         broken: p.broken | (shown != 0),
+        several: p.several,
         shown: p.shown + shown as usize,
         frames: p.frames,
-        roots: p.roots,
         high,
         known,
         upcoming,
@@ -208,9 +214,9 @@ fn pass_step(words: &[u32], at: RowPlace, prior: RowPlace, p: Pass) -> Tested
     Tested::Holds(Pass {
         late: false,
         broken: p.broken,
+        several: p.several,
         shown: p.shown + shown as usize,
         frames: p.frames,
-        roots: p.roots,
         high,
         known,
         upcoming,
@@ -243,9 +249,9 @@ fn pass_first(words: &[u32], at: RowPlace, p: Pass) -> Tested
     Tested::Holds(Pass {
         late: p.late,
         broken: p.broken,
+        several: p.several | root,
         shown: p.shown + reads::shown(words, at) as usize,
         frames: p.frames + 1,
-        roots: p.roots + root as usize,
         high,
         known,
         upcoming,
@@ -309,59 +315,132 @@ fn rows_pass(words: &[u32], n: usize, top: FrameNo, next: DocNo) -> Tested
     }
 }
 
-// Whether a row is an upcoming step of a window, the first of its frame. The window is asked last: it takes a climb.
+// Whether the row before a row in its frame is shown, so that it is the first upcoming one of its frame.
+fn comes_at(words: &[u32], at: RowPlace) -> bool
+    requires { ⌜ Within (now words) (at .0) ⌝ }
+    ensures { λ r. ⌜ r ≡ comes (rowsOf (now (words .entry))) (at .0) ⌝ }
+{
+    match reads::latest_of(words, at, reads::frame(words, at)) {
+        Found::At(prior) => reads::is_shown(words, prior),
+        Found::Nothing => false,
+    }
+}
+
+// Whether it is so and of a window. The window is asked last: it takes a climb.
 pub fn comes_in(words: &[u32], at: RowPlace, root: FrameNo) -> bool
     requires { ⌜ Within (now words) (at .0) ⌝ }
     ensures { λ r. ⌜ r ≡ comesIn (root .0) (rowsOf (now (words .entry))) (at .0) ⌝ }
 {
-    let Found::At(prior) = reads::latest_of(words, at, reads::frame(words, at)) else {
-        return false;
-    };
-    if !reads::is_shown(words, prior) {
+    if !comes_at(words, at) {
         return false;
     }
     reads::root_of(words, at).0 == root.0
 }
 
-// Whether such a step stands up to a row, from another on.
-fn comes_upto(words: &[u32], from: RowPlace, at: RowPlace, root: FrameNo) -> bool
-    requires { ⌜ Within (now words) (at .0) × (someBelow (from .0) (comes (rowsOf (now words))) ≡ false) ⌝ }
-    ensures { λ r. ⌜ r ≡ someBelow (at .0 + 1) (comesIn (root .0) (rowsOf (now (words .entry)))) ⌝ }
+// Whether a row is a shown step.
+pub fn is_shown_step(words: &[u32], at: RowPlace) -> bool
+    requires { ⌜ Within (now words) (at .0) ⌝ }
+    ensures { λ r. ⌜ r ≡ shownStep (rowsOf (now (words .entry))) (at .0) ⌝ }
 {
+    if !reads::is_shown(words, at) {
+        return false;
+    }
+    match reads::latest_of(words, at, reads::frame(words, at)) {
+        Found::At(_) => true,
+        Found::Nothing => false,
+    }
+}
+
+// A window of which a walk has found that no shown step stands later, and what it knows of it.
+struct Seen {
+    root: FrameNo,
+    known: Known,
+}
+
+// What a walk finds at a row: a shown step at it or later, in the window of which it is an upcoming one, or none, with the window last looked at.
+enum Look {
+    Breaks,
+    Goes(Seen),
+}
+
+// A row, and whether it is a shown step of a window.
+fn step_within(words: &[u32], at: RowPlace, root: FrameNo, known: Known) -> Member
+    requires { ⌜ Within (now words) (at .0) × Recalls (root .0) (rowsOf (now words)) known ⌝ }
+    ensures { λ r. ⌜ (r .inside ≡ shownStepIn (root .0) (rowsOf (now (words .entry))) (at .0)) × Recalls (root .0) (rowsOf (now (words .entry))) (r .known) ⌝ }
+{
+    if !is_shown_step(words, at) {
+        return Member {
+            inside: false,
+            known,
+        };
+    }
+    members::belongs(words, at, root, known)
+}
+
+// Whether a shown step of a window stands at a place or later.
+fn step_from(words: &[u32], from: RowPlace, root: FrameNo, known: Known) -> bool
+    requires { ⌜ Within (now words) (from .0) × Recalls (root .0) (rowsOf (now words)) known ⌝ }
+    ensures { λ r. ⌜ r ≡ stepFrom (root .0) (rowsOf (now (words .entry))) (from .0) ⌝ }
+{
+    let n = rows::row_count(words);
+    let mut mind = known;
     let mut j = from.0;
-    while j <= at.0 {
-        if comes_in(words, RowPlace(j), root) {
+    while j < n {
+        let m = step_within(words, RowPlace(j), root, mind);
+        if m.inside {
             return true;
         }
+        mind = m.known;
         j += 1;
     }
     false
 }
 
-// Whether a row is no shown step, or no upcoming one of its window stands before it; none does before `from`.
-fn is_calm(words: &[u32], from: RowPlace, at: RowPlace) -> bool
-    requires { ⌜ Within (now words) (at .0) × (someBelow (from .0) (comes (rowsOf (now words))) ≡ false) ⌝ }
-    ensures { λ r. ⌜ r ≡ calm (rowsOf (now (words .entry))) (at .0) ⌝ }
+// A look at the window of a row that comes.
+fn look_on(words: &[u32], at: RowPlace) -> Look
+    requires { ⌜ Within (now words) (at .0) × Kin (rowsOf (now words)) × So (comes (rowsOf (now words)) (at .0)) ⌝ }
+    ensures { λ r. ⌜ Looks (rowsOf (now (words .entry))) (at .0) r ⌝ }
 {
-    if !reads::is_shown(words, at) {
-        return true;
+    let root = reads::root_of(words, at);
+    let known = members::known_beneath(words, at);
+    if step_from(words, at, root, known) {
+        return Look::Breaks;
     }
-    match reads::latest_of(words, at, reads::frame(words, at)) {
-        Found::At(_) => !comes_upto(words, from, at, reads::root_of(words, at)),
-        Found::Nothing => true,
-    }
+    Look::Goes(Seen { root, known })
 }
 
-// S7, where no step is upcoming before `from`.
+// A look at a row: one of the window last looked at needs none.
+fn look_at(words: &[u32], at: RowPlace, seen: Seen) -> Look
+    requires { ⌜ Within (now words) (at .0) × Sees (rowsOf (now words)) (at .0) seen ⌝ }
+    ensures { λ r. ⌜ Looks (rowsOf (now (words .entry))) (at .0) r ⌝ }
+{
+    let root = seen.root;
+    let m = members::belongs(words, at, root, seen.known);
+    let known = m.known;
+    if m.inside {
+        return Look::Goes(Seen { root, known });
+    }
+    if comes_at(words, at) {
+        return look_on(words, at);
+    }
+    Look::Goes(Seen { root, known })
+}
+
+// S7, where `from` is the place of the first row that comes.
 fn windows_calm(words: &[u32], from: RowPlace, n: usize) -> bool
-    requires { ⌜ Within (now words) 0 × (n ≡ length (rowsOf (now words))) × (someBelow (from .0) (comes (rowsOf (now words))) ≡ false) ⌝ }
+    requires { ⌜ Within (now words) (from .0) × (n ≡ length (rowsOf (now words))) × Kin (rowsOf (now words)) × So (comes (rowsOf (now words)) (from .0)) × (someBelow (from .0) (comes (rowsOf (now words))) ≡ false) ⌝ }
     ensures { λ r. ⌜ r ≡ allBelow (length (rowsOf (now (words .entry)))) (calm (rowsOf (now (words .entry)))) ⌝ }
 {
-    let mut i = from.0;
+    let Look::Goes(first) = look_on(words, from) else {
+        return false;
+    };
+    let mut seen = first;
+    let mut i = from.0 + 1;
     while i < n {
-        if !is_calm(words, from, RowPlace(i)) {
+        let Look::Goes(next) = look_at(words, RowPlace(i), seen) else {
             return false;
-        }
+        };
+        seen = next;
         i += 1;
     }
     true
@@ -375,7 +454,7 @@ fn is_in_order(words: &[u32], n: usize, p: Pass) -> bool
     if !p.broken {
         return true;
     }
-    if p.roots == 1 {
+    if !p.several {
         return false;
     }
     windows_calm(words, p.upcoming, n)
@@ -525,10 +604,10 @@ pub fn locate(words: &[u32]) -> Survey
     match test(words) {
         Tested::Fails => Survey::No(Refusal::Unsound),
         Tested::Holds(p) => {
-            if p.roots == 1 {
-                Survey::Stands(stand_of(words, p))
-            } else {
+            if p.several {
                 Survey::Several
+            } else {
+                Survey::Stands(stand_of(words, p))
             }
         }
     }

@@ -12,9 +12,9 @@ use Rattle.rules.specs.Steps.{reached, upcoming}
 use Rattle.rules.specs.Moves.{gone, without, upcomingIn, cleared}
 use Rattle.rules.specs.Windows.{inWindow}
 use Rattle.laws.specs.Alone.{clearedAll}
-use Rattle.laws.proofs.Tests.{clash, off, same-tests, by-order, count-all, one-out}
+use Rattle.laws.proofs.Tests.{clash, off, same-tests, by-order, count-all}
 use Rattle.laws.proofs.Frames.{step-in, reach-in, reach-out}
-use Rattle.laws.proofs.Central.{only-shown}
+use Rattle.laws.proofs.Central.{only-shown, shown-one}
 use Rattle.laws.proofs.Tree.{TreeOf, OneRoot}
 use Rattle.windows.proofs.Along.{along}
 use Rattle.windows.proofs.Roots.{root-frame, root-one}
@@ -49,7 +49,7 @@ module _ (rows : List Row) {a b : ℕ} (s : WideRows rows a b) (r : ℕ) where
       simp and-eq-true-iff (v .0, rw (off (isShown rows i) (λ t. clash (reach-in _ _ (isShown rows) (omega arith) l refl t) (not-true _ (v .1 .1)))) refl))
       (λ h.
       let v = simp and-eq-true-iff at h in
-      let k = shown-one in
+      let k = shown-one rows (s .s6) i l in
       let before : k .0 < i = by-order (k .0) i (λ m. m) (λ e. absurd (clash (subst (λ x. So (isShown rows x)) e (k .3)) (not-true _ (v .1)))) (λ m. absurd (omega (arith, none-after (v .0) (k .0) m (k .1) (k .2) (k .3)))) in
       simp and-eq-true-iff (
         v .0,
@@ -62,13 +62,6 @@ module _ (rows : List Row) {a b : ℕ} (s : WideRows rows a b) (r : ℕ) where
         ),
       ))
     where
-      -- The shown row of i's frame.
-      shown-one : (k : ℕ) × (k < length rows) × (frameAt rows k ≡ frameAt rows i) × So (isShown rows k)
-      shown-one =
-          let x = one-out _ (length rows) (s .s6 .one i l) .0 in
-          let t = simp and-eq-true-iff at (x .2) in
-          (x .0, x .1, eqb-true _ _ (t .0), t .1)
-
       -- No later one is: it would be a shown step after an upcoming one.
       none-after : So (inWindow r rows i) → (k : ℕ) → i < k → k < length rows → frameAt rows k ≡ frameAt rows i → So (isShown rows k) → k < u
       none-after w k m n e t =

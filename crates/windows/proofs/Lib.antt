@@ -4,10 +4,10 @@ pub mod Along
 pub mod Roots
 pub mod Wholes
 pub mod Window
+pub mod Counted
 pub mod Parts
 pub mod Flagged
 pub mod Without
-pub mod Extracted
 pub mod Added
 pub mod Members
 pub mod Opened

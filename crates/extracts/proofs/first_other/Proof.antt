@@ -8,8 +8,8 @@ use denote.Ref.{now}
 use Rattle.rules.specs.Below.{someBelow, earliest}
 use Rattle.rules.specs.Words.{rowsOf}
 use Rattle.laws.proofs.Loops.{some-none, some-more, first-found, first-done}
-use Rattle.windows.proofs.Extracted.{otherRoot}
 use Rattle.sound.proofs.Checks.{examined-fits}
+use Rattle.extracts.specs.Windows.{otherRoot}
 use Rattle.extracts.proofs.first_other.Statement.{statement}
 use Rattle.extracts.proofs.first_other.Tie as tie
 

@@ -1,44 +1,51 @@
 -- `sound::windows_calm` meets its contract. Assumes nothing.
-use Prim.Native.Nat.{_+_, _-_}
+use borrow.Author.Needs.{needs}
+use Prim.Native.Nat.{_-_, _≤_}
 use mathlib.Core.Bool.{true}
-use mathlib.Core.Path.{_≡_}
+use mathlib.Core.Path.{_≡_, ap, _∙_}
 use native.Mathlib.Omega.{arith}
-use borrow.Author.Tests.{not-true, not-false}
-use mir.Syntax.{w64}
-use mir.Val.{Fits}
 use denote.Ref.{now}
 use Rattle.rules.specs.Below.{allBelow}
 use Rattle.rules.specs.Words.{rowsOf}
-use Rattle.laws.proofs.Loops.{all-more, all-fails}
-use Rattle.sound.specs.Quick.{calm}
-use Rattle.sound.proofs.Calm.{all-calm, all-upto}
+use Rattle.laws.proofs.Loops.{all-done}
+use Rattle.sound.specs.Looks.{clear, Sees}
+use Rattle.sound.proofs.Calm.{clear-before, clear-calm, look-broke, look-went}
 use Rattle.sound.proofs.windows_calm.Statement.{statement}
 use Rattle.sound.proofs.windows_calm.Tie as tie
 
 abbrev Inv-loop : tie.InvT-loop
-Inv-loop words from n i₀ i = allBelow i (calm (rowsOf words)) ≡ true
+Inv-loop words n seen₀ i₀ seen i = (i ≤ n) × (allBelow i (clear (rowsOf words)) ≡ true) × Sees (rowsOf words) i seen
 
 abbrev μ-loop : tie.MeasureT-loop
-μ-loop words from n i₀ i = n - i
+μ-loop words n seen₀ i₀ seen i = n - i
 
 pub windows-calm-spec : {M : Type 1} → statement M
 windows-calm-spec =
     tie.close (tie.spec
     Inv-loop
     μ-loop
-    (λ c. let c1 = c .before in
-    all-calm (rowsOf (now (c1 .args .words))) _ (c1 .pre .2))
-    (λ c κs. let c3 = c .before .before .before in
-    (record { fits = c3 .pre .0 .fits; below = omega (arith, c3 .pre .1) }, c3 .pre .2))
-    (λ c. let c1 = c .before in
-    let c5 = c1 .before .before .before .before in
-    all-fails _ _ _ _ (omega (arith, c5 .pre .1)) (c1 .is-calm .ensures) (not-true _ (c .if1 .taken)))
-    (λ c. let c3 = c .before .before .before in
-    let f : Fits w64 (c3 .loop .i + 1) = record { fits = omega arith } in f)
+    (λ c κs. let s = c .before in
+    (s .pre .0, s .pre .2, s .pre .3))
+    (λ c. search needs)
+    (λ c. search needs)
+    (λ c. let s = c .before .before .before .before in
+    look-broke (rowsOf (now (s .args .words))) _ _ (c .before .before .look-on .ensures) (c .enum-told .given .1) (s .pre .0 .below))
+    (λ c. omega (arith, c .before .before .before .before .before .before .pre .0 .below, c .before .before .before .before .before .before .pre .1))
+    (λ c. let s = c .before .before .before .before .before .before in
+    let rows = rowsOf (now (s .args .words)) in
+    let w = look-went rows _ _ (c .before .before .before .before .look-on .ensures) _ (c .before .before .first .given .1) (clear-before rows _ (s .pre .4)) in
+    (omega (arith, s .pre .0 .below, s .pre .1), w .0, w .1))
+    (λ c κs. let s = c .before .before .before .before .before .before .before .before in
+    (record { fits = s .pre .0 .fits; below = omega (arith, s .pre .1) }, c .before .loop .inv .2))
+    (λ c. search needs)
+    (λ c. search needs)
+    (λ c. let s = c .before .before .before .before .before .before .before .before .before .before .before in
+    look-broke (rowsOf (now (s .args .words))) _ _ (c .before .before .look-at .ensures) (c .enum-told2 .given .1) (omega (arith, s .pre .1)))
     (λ c. omega arith)
-    (λ c. let c1 = c .before in
-    let c3 = c1 .before .before in
-    all-more _ _ _ (c3 .loop .inv) (c1 .is-calm .ensures) (not-false _ (c .if1 .left)))
-    (λ c. let c1 = c .before in
-    let c3 = c1 .before .before in
-    all-upto _ _ _ (omega (arith, c3 .pre .1)) (c1 .loop .inv)))
+    (λ c. omega arith)
+    (λ c. let s = c .before .before .before .before .before .before .before .before .before .before .before .before in
+    let w = look-went (rowsOf (now (s .args .words))) _ _ (c .before .before .before .look-at .ensures) _ (c .before .next .given .1) (c .before .before .before .before .before .loop .inv .1) in
+    (omega arith, w .0, w .1))
+    (λ c. let s = c .before .before .before .before .before .before .before .before in
+    let rows = rowsOf (now (s .args .words)) in
+    all-done (clear rows) _ _ (c .before .loop .inv .0) (c .loop-test .left) (c .before .loop .inv .1) ∙ ap (λ n. allBelow n (clear rows)) (s .pre .1) ∙ clear-calm rows))
