@@ -1,8 +1,9 @@
 -- Where a window stands, read off its flags. Assumes nothing.
 use Prim.Native.Nat.{ℕ, _+_, _-_, _≤_, _<_}
-use mathlib.Core.Bool.{Bool, false, _&&_, So, and-eq-true-iff}
+use mathlib.Core.Bool.{Bool, false, _&&_, So, cond, and-eq-true-iff}
 use mathlib.Core.List.{List}
 use mathlib.Core.Path.{_≡_, refl, sym, ap, _∙_}
+use native.Mathlib.Numerals.{add-one}
 use native.Mathlib.Omega.{arith}
 use lib.Dec.{ltb}
 use lib.ListN.{length}
@@ -21,6 +22,19 @@ use Rattle.sound.specs.Survey.{alone?, standOf}
 use Rattle.sound.proofs.Checks.{examined-sound}
 use Rattle.sound.proofs.Alone.{alone-rows}
 use Rattle.extracts.specs.Windows.{hiddenFrom}
+
+-- A walk for the latest that passes.
+module _ (p : ℕ → Bool) where
+  pub latest-first : 0 ≡ latest p 0
+  unfolding latest
+  latest-first = refl
+
+  pub latest-more : (i l m : ℕ) (b : Bool) → l ≡ latest p i → b ≡ p i → m ≡ cond b i l → m ≡ latest p (i + 1)
+  unfolding latest
+  latest-more i l m b e h g = rw (add-one i) (g ∙ rw (h, e) refl)
+
+  pub latest-all : (i n l : ℕ) → i ≡ n → l ≡ latest p i → l ≡ latest p n
+  latest-all i n l e h = h ∙ ap (latest p) e
 
 module _ (rows : List Row) where
   -- A walk for the first hidden row from place i on.

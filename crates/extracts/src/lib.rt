@@ -2,14 +2,14 @@
 // the words of the copy, 3 + 4 * 512 = 2051, are lent by them.
 //
 // What bounds it, for n rows: the window's rows are copied in one walk, in which a row climbs unless its parent is one of those in mind (`members`). Where the window stands is
-// read off its flags: one walk back to the latest shown step, one on to the next hidden row, and two counts. Putting the flags back is one walk over both records.
+// read off its flags: one walk for the latest shown step, one on to the next hidden row, and two counts. Putting the flags back is one walk over both records.
 use base::FrameNo;
 use base::RowPlace;
 use members::Known;
 use members::Member;
 use reads::NONE;
 use sound::Stand;
-ghost use mathlib.Core.Bool.{So};
+ghost use mathlib.Core.Bool.{So, cond};
 ghost use mathlib.Core.Path.{_≡_};
 ghost use Prim.Native.Nat.{_<_};
 ghost use lib.ListN.{length, replicate};
@@ -151,19 +151,30 @@ pub fn take_out(words: &[u32], root: FrameNo, first: RowPlace, own: &mut [u32])
 
 // WHERE A WINDOW STANDS, BY ITS FLAGS
 
+// One place or the other.
+fn either(first: bool, a: RowPlace, b: RowPlace) -> RowPlace
+    ensures { λ r. ⌜ r .0 ≡ cond first (a .0) (b .0) ⌝ }
+{
+    if first { a } else { b }
+}
+
 // The latest shown step of a sound record; its first row where there is none.
 fn latest_shown(own: &[u32]) -> RowPlace
     requires { ⌜ Examined (now own) ⌝ }
     ensures { λ r. ⌜ r .0 ≡ latest (shownStep (rowsOf (now (own .entry)))) (length (rowsOf (now (own .entry)))) ⌝ }
 {
-    let mut i = rows::row_count(own);
-    while 0 < i {
-        if sound::is_shown_step(own, RowPlace(i - 1)) {
-            return RowPlace(i - 1);
-        }
-        i -= 1;
+    let n = rows::row_count(own);
+    let mut high = FrameNo(0);
+    let mut last = RowPlace(0);
+    let mut i = 0;
+    while i < n {
+        let at = RowPlace(i);
+        let step = sound::is_shown_step(own, at, high);
+        last = either(step, at, last);
+        high = reads::higher(high, reads::frame(own, at));
+        i += 1;
     }
-    RowPlace(0)
+    last
 }
 
 // Whether a row is hidden.

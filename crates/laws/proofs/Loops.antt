@@ -101,10 +101,6 @@ module _ (p : ℕ → Bool) where
   pub last-found : (n i : ℕ) (b : Bool) → latest p n ≡ latest p i → 0 < i → b ≡ p (i - 1) → b ≡ true → i - 1 ≡ latest p n
   last-found n i b h l e t = sym (h ∙ down (λ i k. So (p k) → latest p i ≡ k) latest-yes i l (sym e ∙ t))
 
-  pub last-done : (n i : ℕ) → latest p n ≡ latest p i → i ≤ 0 → 0 ≡ latest p n
-  unfolding latest
-  last-done n i h l = let z : i ≡ 0 = omega arith in sym (h ∙ ap (latest p) z)
-
 -- What the earliest number is, whether one passes or not.
 pub record Earliest (p : ℕ → Bool) (n e : ℕ) : Type 0 where
   pub within : e ≤ n

@@ -38,11 +38,12 @@ fn position_alone(words: &[u32], s: Stand, root: FrameNo) -> Standing
     Standing::At(s.position, s.steps, s.steps + 1)
 }
 
-// What a walk over the rows has counted of a window: its hidden rows, which are as many as its steps, how many of them came before its latest shown step, which are its taken ones, and what is
-// known of the window.
+// What a walk over the rows has counted of a window: its hidden rows, which are as many as its steps, how many of them came before its latest shown step, which are its taken ones, a
+// bound on the frame numbers, and what is known of the window.
 struct Tally {
     hidden: usize,
     taken: usize,
+    high: FrameNo,
     known: Known,
 }
 
@@ -53,17 +54,20 @@ fn tally_row(words: &[u32], at: RowPlace, root: FrameNo, t: Tally) -> Tally
 {
     let m = members::belongs(words, at, root, t.known);
     let known = m.known;
+    let high = reads::higher(t.high, reads::frame(words, at));
     if !m.inside {
         return Tally {
             hidden: t.hidden,
             taken: t.taken,
+            high,
             known,
         };
     }
-    if sound::is_shown_step(words, at) {
+    if sound::is_shown_step(words, at, t.high) {
         return Tally {
             hidden: t.hidden,
             taken: t.hidden,
+            high,
             known,
         };
     }
@@ -71,6 +75,7 @@ fn tally_row(words: &[u32], at: RowPlace, root: FrameNo, t: Tally) -> Tally
     Tally {
         hidden: t.hidden + hidden as usize,
         taken: t.taken,
+        high,
         known,
     }
 }
@@ -84,6 +89,7 @@ fn count_window(words: &[u32], root: FrameNo) -> Tally
     let mut t = Tally {
         hidden: 0,
         taken: 0,
+        high: FrameNo(0),
         known: members::nothing_known(),
     };
     let mut i = 0;

@@ -20,6 +20,7 @@ use Rattle.windows.proofs.Window.{WideRows}
 use Rattle.reads.specs.Found.{foundBelow}
 use Rattle.reads.specs.declared.Found.{Found}
 use Rattle.reads.specs.declared.Found.the-variants.{At, Nothing}
+use Rattle.reads.proofs.Scans.{found-own}
 use Rattle.sound.specs.Quick.{comesIn}
 use Rattle.sound.proofs.Calm.{own-after, own-first}
 use Rattle.laws.proofs.Central.{shown-one}
@@ -28,10 +29,10 @@ use Rattle.sound.proofs.Quick.{upcoming-comes, comes-upcoming, comes-of, comes-
 -- Where it may start, by whether the row is a step.
 module _ (rows : List Row) (i f : ℕ) (r : Found) (e : f ≡ frameAt rows i) (g : r ≡ foundBelow (inFrame rows f) i) where
   pub starts-after : (j : RowPlace) → r ≡ At j → i + 1 ≡ cond (isStep rows i) (i + 1) 0
-  starts-after j h = rw (own-after rows i f r e g j h .step) refl
+  starts-after j h = rw (own-after rows i r (found-own rows i i f r e g) j h .step) refl
 
   pub starts-first : r ≡ Nothing → 0 ≡ cond (isStep rows i) (i + 1) 0
-  starts-first h = rw (own-first rows i f r e g h) refl
+  starts-first h = rw (own-first rows i r (found-own rows i i f r e g) h) refl
 
 module _ (rows : List Row) {a b : ℕ} (s : WideRows rows a b) where
   -- Up to a shown step no step of its window is upcoming.

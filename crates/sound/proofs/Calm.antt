@@ -9,8 +9,9 @@ use lib.Dec.{eqb, leb}
 use lib.ListN.{length}
 use borrow.Author.Tests.{eqb-true, eq-eqb, leb-true, le-leb, not-true}
 use Rattle.rules.specs.Below.{someBelow, allBelow, earliest}
-use Rattle.rules.specs.Rows.{Row, Table, none, frameAt, isShown, inFrame}
-use Rattle.rules.specs.Steps.{isStep}
+use Rattle.rules.specs.Rows.{Row, none, frameAt, isShown}
+use Rattle.rules.specs.Steps.{same, isStep}
+use Rattle.rules.specs.Words.{tableOf, rowsOf}
 use Rattle.rules.specs.Windows.{rootAt, inWindow}
 use Rattle.base.specs.declared.RowPlace.{RowPlace}
 use Rattle.laws.proofs.Tests.{test, clash, off, same-tests, by-lt, some-in, some-out, all-in, all-out}
@@ -18,14 +19,15 @@ use Rattle.laws.proofs.Loops.{all-more, all-fails, some-more, some-found, earli
 use Rattle.laws.proofs.Hidden.{shownStep}
 use Rattle.windows.proofs.Counted.{shownStepIn}
 use Rattle.windows.proofs.Roots.{root-kin}
+use Rattle.reads.specs.Under.{Under}
 use Rattle.reads.specs.Found.{foundBelow}
 use Rattle.reads.specs.declared.Found.{Found}
 use Rattle.reads.specs.declared.Found.the-variants.{At, Nothing}
-use Rattle.reads.proofs.Scans.{found-own, first-found}
+use Rattle.reads.proofs.Scans.{first-found}
 use Rattle.members.specs.Members.{Kin, Recalls, Sided}
 use Rattle.members.specs.declared.Known.{Known}
 use Rattle.members.specs.declared.Member.{Member}
-use Rattle.sound.specs.Quick.{comes, comesIn, quiet, calm, kept?}
+use Rattle.sound.specs.Quick.{comes, comesIn, quiet, calm, firm?}
 use Rattle.sound.specs.Pass.{Passed, StepAfter}
 use Rattle.sound.specs.Looks.{stepFrom, clear, Sees, Looks}
 use Rattle.sound.specs.declared.Pass.{Pass}
@@ -37,12 +39,12 @@ use Rattle.sound.proofs.Quick.{calm-is, comes-of, comes-whose, tree-kep
 
 module _ (rows : List Row) (i : ℕ) where
   -- The scan over a row's own frame finds the row before it, or that it is the first.
-  module _ (f : ℕ) (r : Found) (e : f ≡ frameAt rows i) (g : r ≡ foundBelow (inFrame rows f) i) where
+  module _ (r : Found) (e : r ≡ foundBelow (same (frameAt rows) i) i) where
     pub own-after : (j : RowPlace) → r ≡ At j → StepAfter rows i (j .0)
-    own-after j h = step-after rows i r j (found-own rows i i f r e g) h
+    own-after j h = step-after rows i r j e h
 
     pub own-first : r ≡ Nothing → isStep rows i ≡ false
-    own-first h = sym (first-found (frameAt rows) i r (found-own rows i i f r e g) h)
+    own-first h = sym (first-found (frameAt rows) i r e h)
 
   -- A frame's first row does not come, and a step does after a shown row.
   pub comes-first : isStep rows i ≡ false → false ≡ comes rows i
@@ -63,7 +65,7 @@ module _ (rows : List Row) (i : ℕ) where
     unfolding comesIn
     comes-there g t h = rw (sym e ∙ t, h) refl
 
-  -- A shown step: the flag is asked first.
+  -- A shown step: the flag is asked first; of a window, that is asked next.
   module _ (v : Bool) (e : v ≡ isShown rows i) where
     pub step-hidden : v ≡ false → false ≡ shownStep rows i
     step-hidden f = rw (sym e ∙ f) refl
@@ -71,13 +73,20 @@ module _ (rows : List Row) (i : ℕ) where
     pub step-told : v ≡ true → (b : Bool) → b ≡ isStep rows i → b ≡ shownStep rows i
     step-told t b h = rw (sym e ∙ t) h
 
-  -- A shown step of a window: the window is asked last.
-  module _ (r : ℕ) (v : Bool) (e : v ≡ shownStep rows i) where
-    pub within-no : v ≡ false → false ≡ shownStepIn r rows i
-    within-no f = test (inWindow r rows i) (λ t. rw (t, sym e ∙ f) refl) (λ t. rw t refl)
+    module _ (r : ℕ) where
+      pub within-hidden : v ≡ false → false ≡ shownStepIn r rows i
+      within-hidden f = test (inWindow r rows i) (λ t. rw (t, sym e ∙ f) refl) (λ t. rw t refl)
 
-    pub within-told : v ≡ true → (b : Bool) → b ≡ inWindow r rows i → b ≡ shownStepIn r rows i
-    within-told t b h = rw (sym e ∙ t) (h ∙ test (inWindow r rows i) (λ t. rw t refl) (λ t. rw t refl))
+      module _ (shown : v ≡ true) (w : Bool) (in-is : w ≡ inWindow r rows i) where
+        pub within-other : w ≡ false → false ≡ shownStepIn r rows i
+        within-other f = rw (sym in-is ∙ f) refl
+
+        pub within-told : w ≡ true → (b : Bool) → b ≡ isStep rows i → b ≡ shownStepIn r rows i
+        within-told t b h = rw (sym in-is ∙ t, sym e ∙ shown) h
+
+-- A bound on the frame numbers before a place, and on that there.
+pub under-last : (fr : ℕ → ℕ) (i at h : ℕ) → at ≤ i → Under fr i h → fr at ≤ h → Under fr (at + 1) h
+under-last fr i at h l u t k m = by-lt k at (λ b. u k (omega arith)) (λ b. let e : k ≡ at = omega arith in rw e t)
 
 -- A SHOWN STEP FROM A PLACE ON
 
@@ -184,12 +193,9 @@ module _ (rows : List Row) where
         (all-more (clear rows) i true h (sym (o .0)) refl, rw (add-one i) (o .1))
 
 -- The rows that the test keeps are a tree: those beneath one document are of one window.
-pub kept-kin : (t : Table) → t .nextDoc ≤ none → So (kept? (t .rows) (t .nextDoc) (t .nextFrame)) → Kin (t .rows)
-kept-kin t w k = root-kin (t .rows) (tree-kept t w k)
-
--- The pass tells of all rows.
-pub passed-all : (rows : List Row) (n : ℕ) (p : Pass) → n ≡ length rows → Passed rows n p → Passed rows (length rows) p
-passed-all rows n p e = subst (λ k. Passed rows k p) e
+pub firm-kin : (words : List ℕ) → tableOf words .nextDoc ≤ none → So (firm? words) → Kin (rowsOf words)
+unfolding firm?
+firm-kin words w f = root-kin (rowsOf words) (tree-kept (tableOf words) w ((simp and-eq-true-iff at f) .1 .1))
 
 module _ (rows : List Row) (p : Pass) (w : Passed rows (length rows) p) (broken : p .broken ≡ true) where
   -- With a shown step after an upcoming one there is an upcoming one.

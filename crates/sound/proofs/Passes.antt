@@ -29,7 +29,7 @@ use Rattle.reads.specs.Under.{Under}
 use Rattle.laws.proofs.Loops.{all-flag, count-more, earliest-none, latest-yes, latest-no}
 use Rattle.reads.proofs.Scans.{found-at, found-lower, found-nothing, under-more}
 use Rattle.sound.specs.Quick.{bounded, headed, linked, comes, quiet, begins, rowFine, evenly, kept?}
-use Rattle.sound.specs.Pass.{Passed, Onward, StepAfter, TellsTo, Tells, lateOf}
+use Rattle.sound.specs.Pass.{Passed, Onward, Opens, StepAfter, TellsTo, Tells, lateOf}
 use Rattle.sound.specs.declared.Pass.{Pass}
 use Rattle.sound.specs.declared.Tested.the-variants.{Holds}
 
@@ -51,6 +51,13 @@ module _ (rows : List Row) (i : ℕ) where
   unfolding headed
   headed-lost up r e ne f h =
       sym (rw (ne-eqb (parentAt rows i) none (λ z. ne (e ∙ z)), subst (λ d. someBelow i (isDoc rows d) ≡ false) e (found-nothing (isDoc rows up) i (sym f ∙ h))) refl)
+
+  -- A document known, or found, stands in an earlier row.
+  pub known-before : (up known : ℕ) → up ≡ known → someBelow i (isDoc rows known) ≡ true → someBelow i (isDoc rows up) ≡ true
+  known-before up known e h = rw e h
+
+  pub found-before : (up : ℕ) (r : Found) (q : RowPlace) → r ≡ foundBelow (isDoc rows up) i → r ≡ At q → someBelow i (isDoc rows up) ≡ true
+  found-before up r q f h = found-at (isDoc rows up) i q (sym f ∙ h) .0
 
   -- A step and a frame's first row.
   pub step-after : (r : Found) (j : RowPlace) → r ≡ foundBelow (same (frameAt rows) i) i → r ≡ At j → StepAfter rows i (j .0)
@@ -230,13 +237,10 @@ module _ (rows : List Row) where
             )
 
     -- A FRAME'S FIRST ROW
-    module _ (n : isStep rows i ≡ false) (v : Bool) (f : v ≡ headed rows i) where
-      linked-first : linked rows i ≡ v
+    module _ (n : isStep rows i ≡ false) where
+      pub linked-first : (v : Bool) → v ≡ headed rows i → linked rows i ≡ v
       unfolding linked
-      linked-first = rw n (sym f)
-
-      pub first-lost : v ≡ false → linked rows i ≡ false
-      first-lost t = linked-first ∙ t
+      linked-first v f = rw n (sym f)
 
       -- With a root frame more there are several.
       roots-more : (root : Bool) → begins rows i ≡ root → ((p .several || root) ≡ ltb 1 (count (begins rows) (i + 1))) × (1 ≤ count (begins rows) (i + 1))
@@ -249,12 +253,19 @@ module _ (rows : List Row) where
           let same = count-no (begins rows) i (e ∙ t) in
           (rw t (or-false (p .several) ∙ r .several-is ∙ ap (ltb 1) (sym same)), omega (arith, r .some-root))))
 
-      pub first-found : (s u : ℕ) (root : Bool) (high : FrameNo) (known : DocNo) → v ≡ true → s ≡ shownAt rows i → u ≡ parentAt rows i → root ≡ eqb u none →
-          high .0 ≡ max (p .high .0) (frameAt rows i) → known .0 ≡ cond root (p .known .0) u →
-          TellsTo rows (i + 1) (linked rows i) (Holds (record {
+      -- Beneath an earlier document, or without a parent.
+      module _ (up : ℕ) (up-is : up ≡ parentAt rows i) where
+        pub opens-root : up ≡ none → (known : ℕ) → someBelow i (isDoc rows known) ≡ true → Opens rows i true known p
+        opens-root z known h = record { several-is = sym (or-right (p .several) (eq-eqb _ _ (sym up-is ∙ z))); known-is = h }
+
+        pub opens-beneath : (up ≡ none → ⊥) → someBelow i (isDoc rows up) ≡ true → Opens rows i (p .several) up p
+        opens-beneath ne h = record { several-is = sym (ap (λ b. p .several || b) (ne-eqb (parentAt rows i) none (λ z. ne (up-is ∙ z))) ∙ or-false (p .several)); known-is = h }
+
+      pub first-passes : (s : ℕ) (several : Bool) (high : FrameNo) (known : DocNo) → s ≡ shownAt rows i → high .0 ≡ max (p .high .0) (frameAt rows i) → Opens rows i several (known .0) p →
+          Passed rows (i + 1) (record {
             late = p .late;
             broken = p .broken;
-            several = p .several || root;
+            several = several;
             shown = p .shown + s;
             frames = p .frames + 1;
             high = high;
@@ -262,35 +273,31 @@ module _ (rows : List Row) where
             upcoming = p .upcoming;
             begun = p .begun;
             last = p .last;
-          }))
-      unfolding comes quiet begins headed
-      first-found s u root high known t e up top g h =
+          })
+      unfolding comes quiet begins
+      first-passes s several high known e g h =
           let late : p .late ≡ someBelow (i + 1) (comes rows) = sym (or-false (p .late)) ∙ some-or (comes rows) i (p .late) false (r .late-is) (rw n refl) in
           let more = ap (count opens) (add-one i) ∙ count-yes opens i (rw n refl) in
-          let roots = roots-more root (sym (top ∙ rw (n, up) refl)) in
-          let stays : p .late ≡ true → earliest (comes rows) (i + 1) ≡ earliest (comes rows) i = λ t. earliest-stays (comes rows) i (sym late ∙ t) in (
-            linked-first ∙ t,
-            record {
-              late-is = late;
-              broken-is = sym (or-false (p .broken)) ∙ some-or breaks i (p .broken) false (r .broken-is) (rw n refl);
-              shown-are = shown-more s e;
-              frames-are = omega (arith, r .frames-are, more);
-              several-is = roots .0;
-              some-root = roots .1;
-              few-shown = omega (arith, r .few-shown, o .bit);
-              few-frames = omega (arith, r .few-frames);
-              under = under-more (frameAt rows) i (p .high .0) (high .0) (r .under) g;
-              known-is = some-grows (isDoc rows (known .0)) i (test root
-                  (λ y. rw (h, y) (r .known-is))
-                  (λ y. ⊎-elim (λ z. absurd (clash (top ∙ rw up z) y)) (λ z. rw (h, y, up) z) (or-cases (eqb (parentAt rows i) none) _ (sym f ∙ t))));
-              upcoming-is = λ t. r .upcoming-is t ∙ sym (stays t);
-              begun-is = λ t. r .begun-is t ∙ ap (count opens) (sym (stays t));
-              last-is = r .last-is ∙ test (p .late)
-                  (λ t. ap (latest (isStep rows)) (sym (stays t)))
-                  (λ t.
-                  rw (earliest-none (comes rows) i (sym (r .late-is) ∙ t), earliest-none (comes rows) (i + 1) (sym late ∙ t), add-one i) (sym (latest-no (isStep rows) i n)));
-            },
-          )
+          let roots = roots-more (eqb (parentAt rows i) none) (rw n refl) in
+          let stays : p .late ≡ true → earliest (comes rows) (i + 1) ≡ earliest (comes rows) i = λ t. earliest-stays (comes rows) i (sym late ∙ t) in
+          record {
+            late-is = late;
+            broken-is = sym (or-false (p .broken)) ∙ some-or breaks i (p .broken) false (r .broken-is) (rw n refl);
+            several-is = h .several-is ∙ roots .0;
+            some-root = roots .1;
+            shown-are = shown-more s e;
+            frames-are = omega (arith, r .frames-are, more);
+            few-shown = omega (arith, r .few-shown, o .bit);
+            few-frames = omega (arith, r .few-frames);
+            under = under-more (frameAt rows) i (p .high .0) (high .0) (r .under) g;
+            known-is = some-grows (isDoc rows (known .0)) i (h .known-is);
+            upcoming-is = λ t. r .upcoming-is t ∙ sym (stays t);
+            begun-is = λ t. r .begun-is t ∙ ap (count opens) (sym (stays t));
+            last-is = r .last-is ∙ test (p .late)
+                (λ t. ap (latest (isStep rows)) (sym (stays t)))
+                (λ t.
+                rw (earliest-none (comes rows) i (sym (r .late-is) ∙ t), earliest-none (comes rows) (i + 1) (sym late ∙ t), add-one i) (sym (latest-no (isStep rows) i n)));
+          }
 
   -- THE VERDICT
   module _ (top : ℕ) where

@@ -7,7 +7,7 @@ use lib.Dec.{eqb, ltb}
 use lib.ListN.{length}
 use Rattle.base.specs.declared.RowPlace.{RowPlace}
 use Rattle.rules.specs.Below.{someBelow, allBelow, count, earliest, latest}
-use Rattle.rules.specs.Rows.{Row, frameAt, shownAt, isShown, isDoc}
+use Rattle.rules.specs.Rows.{Row, none, frameAt, parentAt, shownAt, isShown, isDoc}
 use Rattle.rules.specs.Moves.{rowBefore}
 use Rattle.rules.specs.Steps.{isStep}
 use Rattle.reads.specs.Under.{Under}
@@ -37,6 +37,11 @@ pub record Onward (rows : List Row) (i : ℕ) (p : Pass) : Type 0 where
   pub passed : Passed rows i p
   pub links : allBelow i (linked rows) ≡ true
   pub bit : shownAt rows i ≤ 1
+
+-- Where row i begins a frame: beneath `known`, which an earlier row holds, or it has no parent, and then there are several root frames and the document found last stays.
+pub record Opens (rows : List Row) (i : ℕ) (several : Bool) (known : ℕ) (p : Pass) : Type 0 where
+  pub several-is : several ≡ (p .several || eqb (parentAt rows i) none)
+  pub known-is : someBelow i (isDoc rows known) ≡ true
 
 -- Row i is a step, and j is the row before it in its frame.
 pub record StepAfter (rows : List Row) (i j : ℕ) : Type 0 where

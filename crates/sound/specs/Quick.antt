@@ -9,8 +9,8 @@ use Rattle.rules.specs.Rows.{Row, none, docAt, frameAt, parentAt, shownAt, isSh
 use Rattle.rules.specs.Steps.{isStep}
 use Rattle.rules.specs.Windows.{rootAt, inWindow}
 use Rattle.rules.specs.Moves.{rowBefore}
-use Rattle.rules.specs.Words.{tableOf, rowsOf}
-use Rattle.rules.specs.Sound.{s2?}
+use Rattle.rules.specs.Words.{capacity, tableOf, rowsOf}
+use Rattle.rules.specs.Sound.{s1?, s2?, s8?}
 
 -- Row i has no parent, or an earlier row has it.
 unfoldable pub headed : List Row → ℕ → Bool
@@ -54,12 +54,12 @@ evenly rows = eqb (count (isShown rows) (length rows)) (count (λ i. not (isStep
 unfoldable pub kept? : List Row → ℕ → ℕ → Bool
 kept? rows nextDoc nextFrame = allBelow (length rows) (rowFine rows nextFrame) && evenly rows && s2? rows nextDoc
 
--- S2 to S6 hold of the words' rows.
-abbrev pub Kept : List ℕ → Type 0
-Kept words = So (kept? (rowsOf words) (tableOf words .nextDoc) (tableOf words .nextFrame))
-
 unfoldable pub quick? : List Row → ℕ → ℕ → Bool
 quick? rows nextDoc nextFrame = kept? rows nextDoc nextFrame && allBelow (length rows) (calm rows)
+
+-- S1 to S6 and S8 of words, in the order in which they are tested.
+unfoldable pub firm? : List ℕ → Bool
+firm? words = s1? (capacity words) (rowsOf words) && (s8? words && kept? (rowsOf words) (tableOf words .nextDoc) (tableOf words .nextFrame))
 
 -- Documents rise from the row before to row i: where all do, S2 asks of the last alone.
 abbrev pub ordered : List Row → ℕ → Bool

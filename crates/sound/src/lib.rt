@@ -23,18 +23,19 @@ ghost use mathlib.Core.Bool.{true, false, So, cond};
 ghost use Prim.Native.Nat.{_+_, _-_, _<_, _≤_, min, max};
 ghost use lib.ListN.{length};
 ghost use Rattle.rules.specs.Below.{someBelow, allBelow};
-ghost use Rattle.rules.specs.Rows.{none, docAt, parentAt, shownAt, isDoc};
+ghost use Rattle.rules.specs.Rows.{none, docAt, frameAt, parentAt, shownAt};
 ghost use Rattle.rules.specs.Steps.{isStep};
-ghost use Rattle.rules.specs.Words.{capacity, tableOf, rowsOf};
+ghost use Rattle.rules.specs.Words.{capacity, rowsOf};
 ghost use Rattle.rules.specs.Sound.{s2?, s8?, sound?};
 ghost use Rattle.rules.specs.Calls.{short};
 ghost use Rattle.reads.specs.Within.{Within};
+ghost use Rattle.reads.specs.Under.{Under};
 ghost use Rattle.windows.proofs.Counted.{shownStepIn};
 ghost use Rattle.laws.proofs.Hidden.{shownStep};
 ghost use Rattle.members.specs.Members.{Kin, Recalls};
-ghost use Rattle.sound.specs.Quick.{bounded, headed, linked, comes, comesIn, calm, rowFine, kept?, quick?, Kept, ordered, alone, Spans};
+ghost use Rattle.sound.specs.Quick.{bounded, linked, comes, comesIn, calm, rowFine, kept?, firm?, ordered, alone, Spans};
 ghost use Rattle.sound.specs.Looks.{stepFrom, Sees, Looks};
-ghost use Rattle.sound.specs.Pass.{Passed, Onward, StepAfter, TellsTo, Tells, lateOf};
+ghost use Rattle.sound.specs.Pass.{Passed, Onward, Opens, StepAfter, TellsTo, Tells, lateOf};
 ghost use Rattle.sound.specs.Check.{checkOf};
 ghost use Rattle.sound.specs.Survey.{alone?, standOf, surveyOf};
 
@@ -57,24 +58,6 @@ pub struct Pass {
 enum Tested {
     Fails,
     Holds(Pass),
-}
-
-// Whether a row has no parent, or that is the document of an earlier one, as `known` is.
-fn is_headed(words: &[u32], at: RowPlace, known: DocNo) -> bool
-    requires { ⌜ Within (now words) (at .0) × (someBelow (at .0) (isDoc (rowsOf (now words)) (known .0)) ≡ true) ⌝ }
-    ensures { λ r. ⌜ r ≡ headed (rowsOf (now (words .entry))) (at .0) ⌝ }
-{
-    let up = reads::parent(words, at);
-    if up.0 == known.0 {
-        return true;
-    }
-    if up.0 == NONE {
-        return true;
-    }
-    match reads::find_below(words, at, up) {
-        Found::At(_) => true,
-        Found::Nothing => false,
-    }
 }
 
 // Whether a row's frame number and flag are within their bounds.
@@ -225,31 +208,18 @@ fn pass_step(words: &[u32], at: RowPlace, prior: RowPlace, p: Pass) -> Tested
     })
 }
 
-// One document, or another.
-fn either(first: bool, a: DocNo, b: DocNo) -> DocNo
-    ensures { λ r. ⌜ r .0 ≡ cond first (a .0) (b .0) ⌝ }
+// The pass with the first row of a frame more, where there are several root frames then or not and this document was found last.
+fn pass_open(words: &[u32], at: RowPlace, several: bool, known: DocNo, p: Pass) -> Pass
+    requires { ⌜ Within (now words) (at .0) × Onward (rowsOf (now words)) (at .0) p × (isStep (rowsOf (now words)) (at .0) ≡ false) × Opens (rowsOf (now words)) (at .0) several (known .0) p ⌝ }
+    ensures { λ r. ⌜ Passed (rowsOf (now (words .entry))) (at .0 + 1) r ⌝ }
 {
-    if first { a } else { b }
-}
-
-// The pass with the first row of a frame more.
-fn pass_first(words: &[u32], at: RowPlace, p: Pass) -> Tested
-    requires { ⌜ Within (now words) (at .0) × Onward (rowsOf (now words)) (at .0) p × (0 < at .0) × (isStep (rowsOf (now words)) (at .0) ≡ false) ⌝ }
-    ensures { λ r. ⌜ TellsTo (rowsOf (now (words .entry))) (at .0 + 1) (linked (rowsOf (now (words .entry))) (at .0)) r ⌝ }
-{
-    if !is_headed(words, at, p.known) {
-        return Tested::Fails;
-    }
     let high = reads::higher(p.high, reads::frame(words, at));
-    let up = reads::parent(words, at);
-    let root = up.0 == NONE;
-    let known = either(root, p.known, up);
     let upcoming = p.upcoming;
     let last = p.last;
-    Tested::Holds(Pass {
+    Pass {
         late: p.late,
         broken: p.broken,
-        several: p.several | root,
+        several,
         shown: p.shown + reads::shown(words, at) as usize,
         frames: p.frames + 1,
         high,
@@ -257,7 +227,25 @@ fn pass_first(words: &[u32], at: RowPlace, p: Pass) -> Tested
         upcoming,
         begun: p.begun,
         last,
-    })
+    }
+}
+
+// The pass with the first row of a frame more: a root row, one beneath the document found last, or one beneath a document that is looked for.
+fn pass_first(words: &[u32], at: RowPlace, p: Pass) -> Tested
+    requires { ⌜ Within (now words) (at .0) × Onward (rowsOf (now words)) (at .0) p × (0 < at .0) × (isStep (rowsOf (now words)) (at .0) ≡ false) ⌝ }
+    ensures { λ r. ⌜ TellsTo (rowsOf (now (words .entry))) (at .0 + 1) (linked (rowsOf (now (words .entry))) (at .0)) r ⌝ }
+{
+    let up = reads::parent(words, at);
+    if up.0 == NONE {
+        return Tested::Holds(pass_open(words, at, true, p.known, p));
+    }
+    if up.0 == p.known.0 {
+        return Tested::Holds(pass_open(words, at, p.several, up, p));
+    }
+    match reads::find_below(words, at, up) {
+        Found::At(_) => Tested::Holds(pass_open(words, at, p.several, up, p)),
+        Found::Nothing => Tested::Fails,
+    }
 }
 
 // The pass with one row more.
@@ -315,12 +303,12 @@ fn rows_pass(words: &[u32], n: usize, top: FrameNo, next: DocNo) -> Tested
     }
 }
 
-// Whether the row before a row in its frame is shown, so that it is the first upcoming one of its frame.
-fn comes_at(words: &[u32], at: RowPlace) -> bool
-    requires { ⌜ Within (now words) (at .0) ⌝ }
+// Whether the row before a row in its frame is shown, so that it is the first upcoming one of its frame; no earlier row has a frame number above `high`.
+fn comes_at(words: &[u32], at: RowPlace, high: FrameNo) -> bool
+    requires { ⌜ Within (now words) (at .0) × Under (frameAt (rowsOf (now words))) (at .0) (high .0) ⌝ }
     ensures { λ r. ⌜ r ≡ comes (rowsOf (now (words .entry))) (at .0) ⌝ }
 {
-    match reads::latest_of(words, at, reads::frame(words, at)) {
+    match reads::previous_under(words, at, high) {
         Found::At(prior) => reads::is_shown(words, prior),
         Found::Nothing => false,
     }
@@ -331,24 +319,79 @@ pub fn comes_in(words: &[u32], at: RowPlace, root: FrameNo) -> bool
     requires { ⌜ Within (now words) (at .0) ⌝ }
     ensures { λ r. ⌜ r ≡ comesIn (root .0) (rowsOf (now (words .entry))) (at .0) ⌝ }
 {
-    if !comes_at(words, at) {
+    if !comes_at(words, at, FrameNo(NONE)) {
         return false;
     }
     reads::root_of(words, at).0 == root.0
 }
 
-// Whether a row is a shown step.
-pub fn is_shown_step(words: &[u32], at: RowPlace) -> bool
-    requires { ⌜ Within (now words) (at .0) ⌝ }
+// Whether a row is a shown step, where no earlier row has a frame number above `high`.
+pub fn is_shown_step(words: &[u32], at: RowPlace, high: FrameNo) -> bool
+    requires { ⌜ Within (now words) (at .0) × Under (frameAt (rowsOf (now words))) (at .0) (high .0) ⌝ }
     ensures { λ r. ⌜ r ≡ shownStep (rowsOf (now (words .entry))) (at .0) ⌝ }
 {
     if !reads::is_shown(words, at) {
         return false;
     }
-    match reads::latest_of(words, at, reads::frame(words, at)) {
-        Found::At(_) => true,
-        Found::Nothing => false,
+    reads::is_step(words, at, high)
+}
+
+// The highest frame number of the rows up to a place.
+fn highest_upto(words: &[u32], at: RowPlace) -> FrameNo
+    requires { ⌜ Within (now words) (at .0) ⌝ }
+    ensures { λ r. ⌜ Under (frameAt (rowsOf (now (words .entry)))) (at .0 + 1) (r .0) ⌝ }
+{
+    let mut high = reads::frame(words, at);
+    let mut i = 0;
+    while i < at.0 {
+        high = reads::higher(high, reads::frame(words, RowPlace(i)));
+        i += 1;
     }
+    high
+}
+
+// Whether a row is a shown step of a window, and what is known of that then. The flag is asked first, and then the window.
+fn step_within(words: &[u32], at: RowPlace, high: FrameNo, root: FrameNo, known: Known) -> Member
+    requires { ⌜ Within (now words) (at .0) × Under (frameAt (rowsOf (now words))) (at .0) (high .0) × Recalls (root .0) (rowsOf (now words)) known ⌝ }
+    ensures { λ r. ⌜ (r .inside ≡ shownStepIn (root .0) (rowsOf (now (words .entry))) (at .0)) × Recalls (root .0) (rowsOf (now (words .entry))) (r .known) ⌝ }
+{
+    if !reads::is_shown(words, at) {
+        return Member {
+            inside: false,
+            known,
+        };
+    }
+    let m = members::belongs(words, at, root, known);
+    let known = m.known;
+    if !m.inside {
+        return Member {
+            inside: false,
+            known,
+        };
+    }
+    let inside = reads::is_step(words, at, high);
+    Member { inside, known }
+}
+
+// Whether a shown step of a window stands at a place or later.
+fn step_from(words: &[u32], from: RowPlace, high: FrameNo, root: FrameNo, known: Known) -> bool
+    requires { ⌜ Within (now words) (from .0) × Under (frameAt (rowsOf (now words))) (from .0) (high .0) × Recalls (root .0) (rowsOf (now words)) known ⌝ }
+    ensures { λ r. ⌜ r ≡ stepFrom (root .0) (rowsOf (now (words .entry))) (from .0) ⌝ }
+{
+    let n = rows::row_count(words);
+    let mut bound = high;
+    let mut mind = known;
+    let mut j = from.0;
+    while j < n {
+        let m = step_within(words, RowPlace(j), bound, root, mind);
+        if m.inside {
+            return true;
+        }
+        bound = reads::higher(bound, reads::frame(words, RowPlace(j)));
+        mind = m.known;
+        j += 1;
+    }
+    false
 }
 
 // A window of which a walk has found that no shown step stands later, and what it knows of it.
@@ -363,55 +406,22 @@ enum Look {
     Goes(Seen),
 }
 
-// A row, and whether it is a shown step of a window.
-fn step_within(words: &[u32], at: RowPlace, root: FrameNo, known: Known) -> Member
-    requires { ⌜ Within (now words) (at .0) × Recalls (root .0) (rowsOf (now words)) known ⌝ }
-    ensures { λ r. ⌜ (r .inside ≡ shownStepIn (root .0) (rowsOf (now (words .entry))) (at .0)) × Recalls (root .0) (rowsOf (now (words .entry))) (r .known) ⌝ }
-{
-    if !is_shown_step(words, at) {
-        return Member {
-            inside: false,
-            known,
-        };
-    }
-    members::belongs(words, at, root, known)
-}
-
-// Whether a shown step of a window stands at a place or later.
-fn step_from(words: &[u32], from: RowPlace, root: FrameNo, known: Known) -> bool
-    requires { ⌜ Within (now words) (from .0) × Recalls (root .0) (rowsOf (now words)) known ⌝ }
-    ensures { λ r. ⌜ r ≡ stepFrom (root .0) (rowsOf (now (words .entry))) (from .0) ⌝ }
-{
-    let n = rows::row_count(words);
-    let mut mind = known;
-    let mut j = from.0;
-    while j < n {
-        let m = step_within(words, RowPlace(j), root, mind);
-        if m.inside {
-            return true;
-        }
-        mind = m.known;
-        j += 1;
-    }
-    false
-}
-
 // A look at the window of a row that comes.
-fn look_on(words: &[u32], at: RowPlace) -> Look
-    requires { ⌜ Within (now words) (at .0) × Kin (rowsOf (now words)) × So (comes (rowsOf (now words)) (at .0)) ⌝ }
+fn look_on(words: &[u32], at: RowPlace, high: FrameNo) -> Look
+    requires { ⌜ Within (now words) (at .0) × Under (frameAt (rowsOf (now words))) (at .0) (high .0) × Kin (rowsOf (now words)) × So (comes (rowsOf (now words)) (at .0)) ⌝ }
     ensures { λ r. ⌜ Looks (rowsOf (now (words .entry))) (at .0) r ⌝ }
 {
     let root = reads::root_of(words, at);
     let known = members::known_beneath(words, at);
-    if step_from(words, at, root, known) {
+    if step_from(words, at, high, root, known) {
         return Look::Breaks;
     }
     Look::Goes(Seen { root, known })
 }
 
 // A look at a row: one of the window last looked at needs none.
-fn look_at(words: &[u32], at: RowPlace, seen: Seen) -> Look
-    requires { ⌜ Within (now words) (at .0) × Sees (rowsOf (now words)) (at .0) seen ⌝ }
+fn look_at(words: &[u32], at: RowPlace, high: FrameNo, seen: Seen) -> Look
+    requires { ⌜ Within (now words) (at .0) × Under (frameAt (rowsOf (now words))) (at .0) (high .0) × Sees (rowsOf (now words)) (at .0) seen ⌝ }
     ensures { λ r. ⌜ Looks (rowsOf (now (words .entry))) (at .0) r ⌝ }
 {
     let root = seen.root;
@@ -420,26 +430,29 @@ fn look_at(words: &[u32], at: RowPlace, seen: Seen) -> Look
     if m.inside {
         return Look::Goes(Seen { root, known });
     }
-    if comes_at(words, at) {
-        return look_on(words, at);
+    if comes_at(words, at, high) {
+        return look_on(words, at, high);
     }
     Look::Goes(Seen { root, known })
 }
 
 // S7, where `from` is the place of the first row that comes.
-fn windows_calm(words: &[u32], from: RowPlace, n: usize) -> bool
-    requires { ⌜ Within (now words) (from .0) × (n ≡ length (rowsOf (now words))) × Kin (rowsOf (now words)) × So (comes (rowsOf (now words)) (from .0)) × (someBelow (from .0) (comes (rowsOf (now words))) ≡ false) ⌝ }
+fn windows_calm(words: &[u32], from: RowPlace) -> bool
+    requires { ⌜ Within (now words) (from .0) × Kin (rowsOf (now words)) × So (comes (rowsOf (now words)) (from .0)) × (someBelow (from .0) (comes (rowsOf (now words))) ≡ false) ⌝ }
     ensures { λ r. ⌜ r ≡ allBelow (length (rowsOf (now (words .entry)))) (calm (rowsOf (now (words .entry)))) ⌝ }
 {
-    let Look::Goes(first) = look_on(words, from) else {
+    let n = rows::row_count(words);
+    let mut high = highest_upto(words, from);
+    let Look::Goes(first) = look_on(words, from, high) else {
         return false;
     };
     let mut seen = first;
     let mut i = from.0 + 1;
     while i < n {
-        let Look::Goes(next) = look_at(words, RowPlace(i), seen) else {
+        let Look::Goes(next) = look_at(words, RowPlace(i), high, seen) else {
             return false;
         };
+        high = reads::higher(high, reads::frame(words, RowPlace(i)));
         seen = next;
         i += 1;
     }
@@ -447,8 +460,8 @@ fn windows_calm(words: &[u32], from: RowPlace, n: usize) -> bool
 }
 
 // S7, by what the pass knows of all rows: one window alone has no upcoming step before a shown one.
-fn is_in_order(words: &[u32], n: usize, p: Pass) -> bool
-    requires { ⌜ Within (now words) 0 × (n ≡ length (rowsOf (now words))) × Kept (now words) × Passed (rowsOf (now words)) n p ⌝ }
+fn is_in_order(words: &[u32], p: Pass) -> bool
+    requires { ⌜ So (firm? (now words)) × Passed (rowsOf (now words)) (length (rowsOf (now words))) p ⌝ }
     ensures { λ r. ⌜ r ≡ allBelow (length (rowsOf (now (words .entry)))) (calm (rowsOf (now (words .entry)))) ⌝ }
 {
     if !p.broken {
@@ -457,27 +470,7 @@ fn is_in_order(words: &[u32], n: usize, p: Pass) -> bool
     if !p.several {
         return false;
     }
-    windows_calm(words, p.upcoming, n)
-}
-
-// S2 to S7.
-fn rows_sound(words: &[u32], n: usize) -> Tested
-    requires { ⌜ Within (now words) 0 × (n ≡ length (rowsOf (now words))) ⌝ }
-    ensures { λ r. ⌜ Tells (rowsOf (now (words .entry))) (quick? (rowsOf (now (words .entry))) (tableOf (now (words .entry)) .nextDoc) (tableOf (now (words .entry)) .nextFrame)) r ⌝ }
-{
-    let Tested::Holds(p) = rows_pass(
-        words,
-        n,
-        rows::next_frame_number(words),
-        rows::next_document(words),
-    ) else {
-        return Tested::Fails;
-    };
-    if is_in_order(words, n, p) {
-        Tested::Holds(p)
-    } else {
-        Tested::Fails
-    }
+    windows_calm(words, p.upcoming)
 }
 
 // S8.
@@ -495,9 +488,9 @@ fn rest_zero(words: &[u32], n: usize, c: usize) -> bool
     zero
 }
 
-// S1 to S8, with what the pass knows where they hold.
+// S1 to S6 and S8, with what the pass knows where they hold.
 fn test(words: &[u32]) -> Tested
-    ensures { λ r. ⌜ Tells (rowsOf (now (words .entry))) (sound? (now (words .entry))) r ⌝ }
+    ensures { λ r. ⌜ Tells (rowsOf (now (words .entry))) (firm? (now (words .entry))) r ⌝ }
 {
     let c = rows::capacity(words);
     if c == 0 {
@@ -513,7 +506,12 @@ fn test(words: &[u32]) -> Tested
     if !rest_zero(words, n, c) {
         return Tested::Fails;
     }
-    rows_sound(words, n)
+    rows_pass(
+        words,
+        n,
+        rows::next_frame_number(words),
+        rows::next_document(words),
+    )
 }
 
 // S1 to S8.
@@ -522,7 +520,7 @@ pub fn sound(words: &[u32]) -> bool
 {
     match test(words) {
         Tested::Fails => false,
-        Tested::Holds(_) => true,
+        Tested::Holds(p) => is_in_order(words, p),
     }
 }
 
@@ -604,6 +602,9 @@ pub fn locate(words: &[u32]) -> Survey
     match test(words) {
         Tested::Fails => Survey::No(Refusal::Unsound),
         Tested::Holds(p) => {
+            if !is_in_order(words, p) {
+                return Survey::No(Refusal::Unsound);
+            }
             if p.several {
                 Survey::Several
             } else {

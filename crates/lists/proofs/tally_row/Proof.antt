@@ -18,15 +18,18 @@ tally-row-spec =
     tie.close (tie.spec
     (λ c κs. let s = c .before in
     (s .pre .0, s .pre .1 .recalls))
-    (λ c. let s = c .before .before .before .before .before in
-    tally-other _ (rowsOf (now (s .args .words))) _ _ (s .pre .1) _ (c .before .before .before .belongs .ensures) (not-true _ (c .if1 .taken)))
+    (λ c κs. search needs)
     (λ c κs. search needs)
     (λ c. let s = c .before .before .before .before .before .before .before in
-    tally-step _ (rowsOf (now (s .args .words))) _ _ (s .pre .1) _ (c .before .before .before .before .before .belongs .ensures) (not-false _ (c .before .before .if1 .left)) _ (c .before .is-shown-step .ensures) (c .if2 .taken))
+    tally-other _ (rowsOf (now (s .args .words))) _ _ (s .pre .1) _ (c .before .before .before .before .before .belongs .ensures) _ (omega (arith, c .before .before .higher .ensures, c .before .before .before .frame .ensures)) (not-true _ (c .if1 .taken)))
+    (λ c κs. let s = c .before .before .before .before .before .before .before in
+    (s .pre .0, s .pre .1 .under))
+    (λ c. let s = c .before .before .before .before .before .before .before .before .before in
+    tally-step _ (rowsOf (now (s .args .words))) _ _ (s .pre .1) _ (c .before .before .before .before .before .before .before .belongs .ensures) _ (omega (arith, c .before .before .before .before .higher .ensures, c .before .before .before .before .before .frame .ensures)) (not-false _ (c .before .before .if1 .left)) _ (c .before .is-shown-step .ensures) (c .if2 .taken))
     (λ c κs. search needs)
     (λ c. search needs)
-    (λ c. let s = c .before .before .before .before .before .before .before .before .before in
+    (λ c. let s = c .before .before .before .before .before .before .before .before .before .before .before in
     let f : Fits w64 (length (rowsOf (now (s .args .words)))) = record { fits = omega (arith, s .pre .0 .fits) } in
     count-fits _ _ _ (not (c .before .is-shown .result)) (s .pre .1 .few) (s .pre .0 .below) f)
-    (λ c. let s = c .before .before .before .before .before .before .before .before .before in
-    tally-row _ (rowsOf (now (s .args .words))) _ _ (s .pre .1) _ (c .before .before .before .before .before .before .before .belongs .ensures) (not-false _ (c .before .before .before .before .if1 .left)) _ (c .before .before .before .is-shown-step .ensures) (c .before .before .if2 .left) _ (c .before .is-shown .ensures)))
+    (λ c. let s = c .before .before .before .before .before .before .before .before .before .before .before in
+    tally-row _ (rowsOf (now (s .args .words))) _ _ (s .pre .1) _ (c .before .before .before .before .before .before .before .before .before .belongs .ensures) _ (omega (arith, c .before .before .before .before .before .before .higher .ensures, c .before .before .before .before .before .before .before .frame .ensures)) (not-false _ (c .before .before .before .before .if1 .left)) _ (c .before .before .before .is-shown-step .ensures) (c .before .before .if2 .left) _ (c .before .is-shown .ensures)))

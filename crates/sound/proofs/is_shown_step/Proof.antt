@@ -1,10 +1,9 @@
 -- `sound::is_shown_step` meets its contract. Assumes nothing.
 use borrow.Author.Needs.{needs}
-use mathlib.Core.Path.{sym}
 use borrow.Author.Tests.{not-true, not-false}
 use denote.Ref.{now}
 use Rattle.rules.specs.Words.{rowsOf}
-use Rattle.sound.proofs.Calm.{own-after, own-first, step-hidden, step-told}
+use Rattle.sound.proofs.Calm.{step-hidden, step-told}
 use Rattle.sound.proofs.is_shown_step.Statement.{statement}
 use Rattle.sound.proofs.is_shown_step.Tie as tie
 
@@ -14,10 +13,4 @@ is-shown-step-spec =
     (λ c κs. search needs)
     (λ c. step-hidden (rowsOf (now (c .before .before .before .args .words))) _ _ (c .before .is-shown .ensures) (not-true _ (c .if1 .taken)))
     (λ c κs. search needs)
-    (λ c κs. search needs)
-    (λ c. search needs)
-    (λ c. search needs)
-    (λ c. let rows = rowsOf (now (c .before .before .before .before .before .before .before .args .words)) in
-    step-told rows _ _ (c .before .before .before .before .before .is-shown .ensures) (not-false _ (c .before .before .before .before .if1 .left)) _ (sym (own-after rows _ _ _ (c .before .before .before .frame .ensures) (c .before .before .latest-of .ensures) _ (c .enum-told .given .1) .step)))
-    (λ c. let rows = rowsOf (now (c .before .before .before .before .before .before .before .args .words)) in
-    step-told rows _ _ (c .before .before .before .before .before .is-shown .ensures) (not-false _ (c .before .before .before .before .if1 .left)) _ (sym (own-first rows _ _ _ (c .before .before .before .frame .ensures) (c .before .before .latest-of .ensures) (c .enum-told2 .given .1)))))
+    (λ c. step-told (rowsOf (now (c .before .before .before .before .args .words))) _ _ (c .before .before .is-shown .ensures) (not-false _ (c .before .if1 .left)) _ (c .is-step .ensures)))

@@ -1,9 +1,11 @@
 -- `sound::sound` meets its contract. Assumes nothing.
 use borrow.Author.Needs.{needs}
 use mathlib.Core.Path.{sym}
+use native.Mathlib.Omega.{arith}
 use denote.Ref.{now}
 use Rattle.rules.specs.Words.{rowsOf}
-use Rattle.sound.proofs.Verdict.{told-fails, told-holds}
+use Rattle.laws.proofs.Words.{next-doc-in}
+use Rattle.sound.proofs.Verdict.{told-fails, told-holds, sound-stops, sound-goes}
 use Rattle.sound.proofs.sound.Statement.{statement}
 use Rattle.sound.proofs.sound.Tie as tie
 
@@ -13,9 +15,8 @@ sound-spec =
     (λ c κs. search needs)
     (λ c. search needs)
     (λ c. search needs)
-    (λ c. let c2 = c .before .before in
-    let c4 = c2 .before .before in
-    sym (told-fails (rowsOf (now (c4 .args .words))) _ _ _ (c2 .test .ensures) (c .enum-told .given .1)))
-    (λ c. let c2 = c .before .before in
-    let c4 = c2 .before .before in
-    sym (told-holds (rowsOf (now (c4 .args .words))) _ _ _ (c2 .test .ensures) _ (c .enum-told2 .given .1) .0)))
+    (λ c κs. told-holds (rowsOf (now (c .before .before .before .before .before .args .words))) _ _ _ (c .before .before .before .test .ensures) _ (c .before .p .given .1))
+    (λ c. let words = now (c .before .before .before .before .args .words) in
+    sym (sound-stops words (omega (arith, c .before .before .before .shared-slice-known .given 1, next-doc-in words)) (told-fails (rowsOf words) _ _ _ (c .before .before .test .ensures) (c .enum-told .given .1))))
+    (λ c. let words = now (c .before .before .before .before .before .before .args .words) in
+    sound-goes words (omega (arith, c .before .before .before .before .before .shared-slice-known .given 1, next-doc-in words)) _ (told-holds (rowsOf words) _ _ _ (c .before .before .before .before .test .ensures) _ (c .before .before .p .given .1) .0) (c .is-in-order .ensures)))

@@ -3,7 +3,7 @@ use borrow.Author.Needs.{needs}
 use borrow.Author.Tests.{not-true, not-false}
 use denote.Ref.{now}
 use Rattle.rules.specs.Words.{rowsOf}
-use Rattle.sound.proofs.Calm.{within-no, within-told}
+use Rattle.sound.proofs.Calm.{within-hidden, within-other, within-told}
 use Rattle.sound.proofs.step_within.Statement.{statement}
 use Rattle.sound.proofs.step_within.Tie as tie
 
@@ -12,7 +12,11 @@ step-within-spec =
     tie.close (tie.spec
     (λ c κs. search needs)
     (λ c. let s = c .before .before .before in
-    (within-no (rowsOf (now (s .args .words))) _ _ _ (c .before .is-shown-step .ensures) (not-true _ (c .if1 .taken)), s .pre .1))
+    (within-hidden (rowsOf (now (s .args .words))) _ _ (c .before .is-shown .ensures) _ (not-true _ (c .if1 .taken)), s .pre .2))
+    (λ c κs. let s = c .before .before .before in
+    (s .pre .0, s .pre .2))
+    (λ c. let s = c .before .before .before .before .before .before .before in
+    (within-other (rowsOf (now (s .args .words))) _ _ (c .before .before .before .before .before .is-shown .ensures) _ (not-false _ (c .before .before .before .before .if1 .left)) _ (c .before .before .before .belongs .ensures .inside-is) (not-true _ (c .if2 .taken)), c .before .before .before .belongs .ensures .recalls))
     (λ c κs. search needs)
-    (λ c. let s = c .before .before .before .before in
-    (within-told (rowsOf (now (s .args .words))) _ _ _ (c .before .before .is-shown-step .ensures) (not-false _ (c .before .if1 .left)) _ (c .belongs .ensures .inside-is), c .belongs .ensures .recalls)))
+    (λ c. let s = c .before .before .before .before .before .before .before .before in
+    (within-told (rowsOf (now (s .args .words))) _ _ (c .before .before .before .before .before .before .is-shown .ensures) _ (not-false _ (c .before .before .before .before .before .if1 .left)) _ (c .before .before .before .before .belongs .ensures .inside-is) (not-false _ (c .before .if2 .left)) _ (c .is-step .ensures), c .before .before .before .before .belongs .ensures .recalls)))
