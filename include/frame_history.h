@@ -68,12 +68,12 @@ enum {
    up at their first call.
    tests/stack measures every call and holds it to its number here; docs/BENCH.md has what it measured, and why. */
 enum {
-  FRAME_HISTORY_STACK = 576,         /* every call but save, load, load_old, outline, position, and traverse, traverse_rows and lists where there are several windows */
+  FRAME_HISTORY_STACK = 592,         /* every call but save, load, load_old, outline, and traverse, traverse_rows and lists where there are several windows */
   FRAME_HISTORY_SAVE_STACK = 7168,   /* save, which puts the rows in the order of their frames there, where these are many */
   FRAME_HISTORY_LOAD_STACK = 9216,   /* load and load_old, which make the record there before they write the words that they were lent */
   FRAME_HISTORY_OUTLINE_STACK = 512, /* outline; it goes down the documents by calls, so besides */
   FRAME_HISTORY_OUTLINE_LEVEL = 128, /* so much for each level of visible documents: 1 for the root document alone, and 512 at most */
-  FRAME_HISTORY_WINDOW_STACK = 9216  /* traverse, traverse_rows and lists on a record of several windows, where they copy the window's rows; position on every record */
+  FRAME_HISTORY_WINDOW_STACK = 9216  /* traverse, traverse_rows and lists on a record of several windows, where they copy the window's rows */
 };
 
 /* Writes the record of one new window: document 0 in its root frame, frame 0. What the words held does not matter.
