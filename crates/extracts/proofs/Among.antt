@@ -12,6 +12,7 @@ use Rattle.rules.specs.Moves.{reflagged, walked, traversed}
 use Rattle.rules.specs.Words.{tableOf, rowsOf, written}
 use Rattle.rules.specs.Calls.{Call, Answer, beyond, windowIn, outcome}
 use Rattle.laws.proofs.Tests.{test}
+use Rattle.laws.proofs.Calls.{refused-keeps}
 use Rattle.laws.proofs.Flags.{flags-length, flags-doc, flags-bit, flags-eq}
 use Rattle.laws.proofs.Tree.{OneRoot}
 use Rattle.laws.proofs.Travel.{walked-length}
@@ -55,6 +56,13 @@ module _ (words : List ℕ) (e : Examined words) (word : tableOf words .nextDoc 
   back-same =
       flags-eq _ (isShown rows) rows (λ i l. test (inWindow r rows i) (λ t. rw t (window-shown rows (wide .tree) r i l t)) (λ o. rw o refl))
       ∙ own-flags rows (wide .s6 .bit)
+
+  -- Where its own record refuses, the record does, and keeps every word.
+  pub stayed-among : (δ : ℤ) (lent new held : List ℕ) (k : ℕ) (vs : List ℕ) → outcome (Call.Traverse own r δ lent) ≡ record { answer = Answer.refuses k vs; lent = new ∷ held ∷ [] } →
+      outcome (Call.Traverse words r δ lent) ≡ record { answer = Answer.refuses k vs; lent = words ∷ lent ∷ [] }
+  stayed-among δ lent new held k vs told =
+      let a : outcome (Call.Traverse words r δ lent) .answer ≡ Answer.refuses k vs = twins-trip r words own twins δ lent .answers ∙ ap (λ o. o .answer) told in
+      ap₂ (λ x y. record { answer = x; lent = y }) a (refused-keeps (Call.Traverse words r δ lent) k vs a)
 
   module _ (δ : ℤ) (lent : List ℕ) (a : Answer) (new held left : List ℕ)
       (told : outcome (Call.Traverse own r δ lent) ≡ record { answer = a; lent = new ∷ held ∷ [] }) (back : PutBack words new left) where
