@@ -1,93 +1,135 @@
--- Where a window stands, read off its flags. Assumes nothing.
-use Prim.Native.Nat.{ℕ, _+_, _-_, _≤_, _<_}
-use mathlib.Core.Bool.{Bool, false, _&&_, So, cond, and-eq-true-iff}
+-- Where a window stands, read off its flags in one walk. Assumes nothing.
+use Prim.Native.Nat.{ℕ, suc, _+_, _-_, _≤_, _<_, max}
+use mathlib.Core.Bool.{Bool, true, false, not, _&&_, So, cond, and-eq-true-iff}
 use mathlib.Core.List.{List}
-use mathlib.Core.Path.{_≡_, refl, sym, ap, _∙_}
+use mathlib.Core.Path.{_≡_, refl, sym, ap, subst, _∙_}
 use native.Mathlib.Numerals.{add-one}
 use native.Mathlib.Omega.{arith}
-use lib.Dec.{ltb}
+use mir.Val.{boolByte}
+use lib.Dec.{eqb, ltb}
 use lib.ListN.{length}
-use borrow.Author.Tests.{ltb-true, lt-ltb, leb-true, le-leb}
+use borrow.Author.Tests.{ltb-true, lt-ltb, eq-eqb, ne-eqb}
+use Rattle.base.specs.declared.RowPlace.{RowPlace}
+use Rattle.base.specs.declared.FrameNo.{FrameNo}
 use Rattle.rules.specs.Below.{someBelow, count, earliest, latest}
-use Rattle.rules.specs.Rows.{Row, none, isShown}
-use Rattle.rules.specs.Steps.{upcoming, position, steps}
+use Rattle.rules.specs.Rows.{Row, none, frameAt, isShown}
+use Rattle.rules.specs.Steps.{isStep, taken, upcoming, position, steps}
 use Rattle.rules.specs.Words.{tableOf, rowsOf}
-use Rattle.laws.proofs.Tests.{test, clash, off, same-tests, some-in, some-out, count-most, latest-out, latest-none}
-use Rattle.laws.proofs.Loops.{earliest-out, earliest-same}
+use Rattle.laws.proofs.Tests.{test, clash, off, some-in, some-out, count-yes, count-no, latest-out, latest-none}
+use Rattle.laws.proofs.Loops.{earliest-none, earliest-out, latest-yes, latest-no}
 use Rattle.laws.proofs.Removal.{SoundRows}
 use Rattle.laws.proofs.Standing.{count-rest}
-use Rattle.laws.proofs.Hidden.{hidden, shownStep, hidden-steps, hidden-start, last-taken, start-hidden}
+use Rattle.laws.proofs.Hidden.{hidden, shownStep, hidden-steps, hidden-last, last-taken, start-hidden}
+use Rattle.reads.specs.Under.{Under}
+use Rattle.reads.proofs.Scans.{under-more}
 use Rattle.sound.specs.Check.{Examined}
 use Rattle.sound.specs.Survey.{alone?, standOf}
 use Rattle.sound.proofs.Checks.{examined-sound}
 use Rattle.sound.proofs.Alone.{alone-rows}
-use Rattle.extracts.specs.Windows.{hiddenFrom}
+use Rattle.extracts.specs.Windows.{Scans}
+use Rattle.extracts.specs.declared.Scan.{Scan}
 
--- A walk for the latest that passes.
-module _ (p : ℕ → Bool) where
-  pub latest-first : 0 ≡ latest p 0
-  unfolding latest
-  latest-first = refl
+-- With one number more the earliest that passes.
+module _ (p : ℕ → Bool) (i : ℕ) where
+  earliest-hit : So (p i) → earliest p (suc i) ≡ earliest p i
+  unfolding earliest
+  earliest-hit t = test (someBelow i p) (λ s. rw s refl) (λ n. rw (n, t) (sym (earliest-none p i n)))
 
-  pub latest-more : (i l m : ℕ) (b : Bool) → l ≡ latest p i → b ≡ p i → m ≡ cond b i l → m ≡ latest p (i + 1)
-  unfolding latest
-  latest-more i l m b e h g = rw (add-one i) (g ∙ rw (h, e) refl)
-
-  pub latest-all : (i n l : ℕ) → i ≡ n → l ≡ latest p i → l ≡ latest p n
-  latest-all i n l e h = h ∙ ap (latest p) e
+  earliest-miss : p i ≡ false → earliest p (suc i) ≡ cond (eqb (earliest p i) i) (suc i) (earliest p i)
+  unfolding earliest
+  earliest-miss f =
+      test (someBelow i p)
+      (λ s.
+      let k = some-out p i s in
+      let o = earliest-out p i in
+      let l : (earliest p i ≡ i → ⊥) = λ e. clash (k .2) (o .none-before (k .0) (omega arith)) in
+      rw (s, ne-eqb (earliest p i) i l) refl)
+      (λ n. rw (n, f, earliest-none p i n, eq-eqb i i refl) refl)
 
 module _ (rows : List Row) where
-  -- A walk for the first hidden row from place i on.
-  pub from-none : (i : ℕ) → someBelow i (hiddenFrom rows i) ≡ false
-  from-none i = off (someBelow i (hiddenFrom rows i)) (λ s. let k = some-out (hiddenFrom rows i) i s in omega (arith, leb-true i (k .0) ((simp and-eq-true-iff at (k .2)) .0)))
+  -- The first row is no step.
+  pub scan-start : (b : Bool) (high : FrameNo) → b ≡ isShown rows 0 → high .0 ≡ frameAt rows 0 →
+      Scans rows 1 (record { shown = boolByte b; hidden = boolByte (not b); taken = 0; last = record { 0 = 0 }; upcoming = record { 0 = 1 }; high = high })
+  unfolding count latest earliest someBelow
+  scan-start b high e g =
+      record {
+        shown-are = rw e (test (isShown rows 0) (λ t. rw t refl) (λ t. rw t refl));
+        hidden-are = rw e (test (isShown rows 0) (λ t. rw t refl) (λ t. rw t refl));
+        taken-are = refl;
+        last-is = test (shownStep rows 0) (λ t. rw t refl) (λ t. rw t refl);
+        upcoming-is = refl;
+        under = λ k l. let z : k ≡ 0 = omega arith in rw z (omega arith);
+      }
 
-  pub from-is : (i k : ℕ) → i ≤ k → (b : Bool) → b ≡ hidden rows k → b ≡ hiddenFrom rows i k
-  from-is i k l b e = rw (le-leb i k l) e
+  module _ (i : ℕ) (some : 0 < i) (s : Scan) (w : Scans rows i s) (high : FrameNo) (g : high .0 ≡ max (s .high .0) (frameAt rows i)) (v : Bool) (e : v ≡ isShown rows i) where
+    bound : Under (frameAt rows) (i + 1) (high .0)
+    bound = under-more (frameAt rows) i (s .high .0) (high .0) (w .under) g
 
--- What the walks find is where the window stands.
-module _ (own : List ℕ) (e : Examined own) (one : So (alone? (rowsOf own))) (word : tableOf own .nextDoc ≤ none) where
-  abbrev rows : List Row
-  rows = rowsOf own
+    -- The latest shown step stands before row i.
+    earlier : s .last .0 < i
+    earlier =
+        test (someBelow i (shownStep rows))
+        (λ t. omega (arith, w .last-is, latest-out (shownStep rows) i t .0))
+        (λ f. omega (arith, w .last-is, latest-none (shownStep rows) i (λ k l. off (shownStep rows k) (λ t. clash (some-in (shownStep rows) i l t) f))))
 
-  sound : SoundRows rows (tableOf own .nextDoc) (tableOf own .nextFrame)
-  sound = alone-rows own (examined-sound own e) one word
+    pub scan-hidden : v ≡ false → Scans rows (i + 1) (record { shown = s .shown; hidden = s .hidden + 1; taken = s .taken; last = s .last; upcoming = s .upcoming; high = high })
+    scan-hidden f =
+        let no : isShown rows i ≡ false = sym e ∙ f in
+        record {
+          shown-are = rw (add-one i) (w .shown-are ∙ sym (count-no (isShown rows) i no));
+          hidden-are = rw (add-one i) (omega (arith, w .hidden-are, count-yes (hidden rows) i (rw no refl)));
+          taken-are = w .taken-are;
+          last-is = rw (add-one i) (w .last-is ∙ sym (latest-no (shownStep rows) i (rw no refl)));
+          upcoming-is = rw (add-one i) (w .upcoming-is ∙ sym (earliest-hit (λ k. ltb (s .last .0) k && hidden rows k) i (rw (lt-ltb (s .last .0) i earlier, no) refl)));
+          under = bound;
+        }
 
-  some : 1 ≤ length rows
-  some = examined-sound own e .table .s1 .some
+    module _ (there : v ≡ true) (b : Bool) (b-is : b ≡ isStep rows i) where
+      shown-here : So (isShown rows i)
+      shown-here = sym e ∙ there
 
-  -- The latest shown step stands in a row.
-  pub last-within : (last : ℕ) → last ≡ latest (shownStep rows) (length rows) → last < length rows
-  last-within last is =
-      test (someBelow (length rows) (shownStep rows))
-      (λ s. omega (arith, latest-out (shownStep rows) (length rows) s .0))
-      (λ f. omega (arith, some, latest-none (shownStep rows) (length rows) (λ k l. off (shownStep rows k) (λ t. clash (some-in (shownStep rows) (length rows) l t) f))))
+      pub scan-step : b ≡ true → (at up : RowPlace) → at .0 ≡ i → up .0 ≡ i + 1 → Scans rows (i + 1) (record { shown = s .shown + 1; hidden = s .hidden; taken = s .hidden; last = at; upcoming = up; high = high })
+      scan-step t at up ae ue =
+          let st : So (shownStep rows i) = rw shown-here (sym b-is ∙ t) in
+          record {
+            shown-are = rw (add-one i) (omega (arith, w .shown-are, count-yes (isShown rows) i shown-here));
+            hidden-are = rw (add-one i) (w .hidden-are ∙ sym (count-no (hidden rows) i (rw shown-here refl)));
+            taken-are = w .hidden-are ∙ ap (count (hidden rows)) (sym ae);
+            last-is = rw (add-one i) (ae ∙ sym (latest-yes (shownStep rows) i st));
+            upcoming-is = ue ∙ sym (earliest-none (λ k. ltb (at .0) k && hidden rows k) (i + 1) (off _ (λ h.
+                let k = some-out (λ k. ltb (at .0) k && hidden rows k) (i + 1) h in omega (arith, ltb-true (at .0) (k .0) ((simp and-eq-true-iff at (k .2)) .0)))));
+            under = bound;
+          }
 
-  module _ (last up : ℕ) (last-is : last ≡ latest (shownStep rows) (length rows)) (up-is : up ≡ earliest (hiddenFrom rows (last + 1)) (length rows)) where
-    start-is : up ≡ earliest (upcoming rows) (length rows)
-    start-is =
-        up-is ∙ earliest-same (hiddenFrom rows (last + 1)) (λ k. ltb (latest (shownStep rows) (length rows)) k && hidden rows k) (length rows) (λ k l.
-        ap (λ b. b && hidden rows k) (same-tests
-        (λ t. lt-ltb (latest (shownStep rows) (length rows)) k (omega (arith, leb-true (last + 1) k t)))
-        (λ t. le-leb (last + 1) k (omega (arith, ltb-true (latest (shownStep rows) (length rows)) k t)))))
-        ∙ start-hidden rows (sound .s6) (sound .s7) some
+      pub scan-shown : b ≡ false → (up : RowPlace) → up .0 ≡ cond (eqb (s .upcoming .0) i) (i + 1) (s .upcoming .0) →
+          Scans rows (i + 1) (record { shown = s .shown + 1; hidden = s .hidden; taken = s .taken; last = s .last; upcoming = up; high = high })
+      scan-shown f up ue =
+          let st : shownStep rows i ≡ false = rw shown-here (sym b-is ∙ f) in
+          let q : ℕ → Bool = λ k. ltb (s .last .0) k && hidden rows k in
+          let qi : q i ≡ false = rw shown-here (test (ltb (s .last .0) i) (λ t. rw t refl) (λ t. rw t refl)) in
+          record {
+            shown-are = rw (add-one i) (omega (arith, w .shown-are, count-yes (isShown rows) i shown-here));
+            hidden-are = rw (add-one i) (w .hidden-are ∙ sym (count-no (hidden rows) i (rw shown-here refl)));
+            taken-are = w .taken-are;
+            last-is = rw (add-one i) (w .last-is ∙ sym (latest-no (shownStep rows) i st));
+            upcoming-is = ue ∙ rw (w .upcoming-is, add-one i) (sym (earliest-miss q i qi));
+            under = bound;
+          }
 
-    pub up-within : up ≤ length rows
-    up-within = omega (arith, start-is, earliest-out (upcoming rows) (length rows) .within)
+  pub scan-all : (i : ℕ) (s : Scan) → i ≡ length rows → Scans rows i s → Scans rows (length rows) s
+  scan-all i s e = subst (λ n. Scans rows n s) e
 
-    module _ (n frames begun : ℕ) (n-is : n ≡ length rows) (frames-are : frames ≡ count (isShown rows) n) (begun-are : begun ≡ count (isShown rows) up) where
-      pub begun-before : begun ≤ up
-      begun-before = omega (arith, begun-are, count-most (isShown rows) up)
-
-      pub frames-most : frames ≤ n
-      frames-most = omega (arith, frames-are, count-most (isShown rows) n)
-
-      steps-are : n - frames ≡ steps rows
-      steps-are = omega (arith, n-is, frames-are, ap (count (isShown rows)) n-is, count-rest (isShown rows) (length rows), hidden-steps rows (sound .s6))
-
-      position-is : up - begun ≡ position rows
-      position-is = omega (arith, begun-are, count-rest (isShown rows) up, ap (count (hidden rows)) start-is ∙ hidden-start rows (sound .s6) (sound .s7))
-
-      pub stands-so : record { frames = frames; steps = n - frames; position = up - begun; upcoming = record { 0 = up }; last = record { 0 = last } } ≡ standOf rows
-      stands-so =
-          let whole : frames ≡ length rows - steps rows = omega (arith, n-is, frames-most, steps-are) in
-          rw (steps-are, position-is, whole, start-is, last-is ∙ sym (last-taken rows (sound .s6) (sound .s7)))
+-- What the walk finds is where the window stands.
+module _ (own : List ℕ) (e : Examined own) (one : So (alone? (rowsOf own))) (word : tableOf own .nextDoc ≤ none) (s : Scan) (w : Scans (rowsOf own) (length (rowsOf own)) s) where
+  pub scan-stands : record { frames = s .shown; steps = s .hidden; position = s .taken; upcoming = s .upcoming; last = s .last } ≡ standOf (rowsOf own)
+  scan-stands =
+      let rows = rowsOf own in
+      let t : SoundRows rows (tableOf own .nextDoc) (tableOf own .nextFrame) = alone-rows own (examined-sound own e) one word in
+      let some = examined-sound own e .table .s1 .some in
+      let steps-are : s .hidden ≡ steps rows = w .hidden-are ∙ hidden-steps rows (t .s6) in
+      let frames-are : s .shown ≡ length rows - steps rows = omega (arith, w .shown-are, count-rest (isShown rows) (length rows), hidden-steps rows (t .s6)) in
+      let position-is : s .taken ≡ position rows = w .taken-are ∙ ap (count (hidden rows)) (w .last-is) ∙ hidden-last rows (t .s6) (t .s7) some in
+      let upcoming-is : s .upcoming .0 ≡ earliest (upcoming rows) (length rows) =
+      w .upcoming-is ∙ ap (λ l. earliest (λ k. ltb l k && hidden rows k) (length rows)) (w .last-is) ∙ start-hidden rows (t .s6) (t .s7) some in
+      let last-is : s .last .0 ≡ latest (taken rows) (length rows) = w .last-is ∙ sym (last-taken rows (t .s6) (t .s7)) in
+      rw (frames-are, steps-are, position-is, upcoming-is, last-is)

@@ -3,15 +3,17 @@ use Prim.Native.Nat.{ℕ, _+_, _*_, _≤_, _<_}
 use mathlib.Core.Bool.{Bool, not, _&&_, So, cond}
 use mathlib.Core.List.{List, [], _∷_, flatMap}
 use mathlib.Core.Path.{_≡_}
-use lib.Dec.{eqb, leb, ltb}
+use lib.Dec.{eqb, ltb}
 use lib.ListN.{length, replicate}
-use Rattle.rules.specs.Below.{count, earliest, gather}
-use Rattle.rules.specs.Rows.{Row, Table, none, rowAt, docAt, parentAt, shownAt, inFrame}
+use Rattle.rules.specs.Below.{count, earliest, latest, gather}
+use Rattle.rules.specs.Rows.{Row, Table, none, rowAt, docAt, frameAt, parentAt, shownAt, isShown, inFrame}
 use Rattle.rules.specs.Windows.{inWindow, windowRows}
 use Rattle.rules.specs.Moves.{reflagged}
 use Rattle.rules.specs.Words.{put, rowWords, tableOf, rowsOf, written}
-use Rattle.laws.proofs.Hidden.{hidden}
+use Rattle.laws.proofs.Hidden.{hidden, shownStep}
+use Rattle.reads.specs.Under.{Under}
 use Rattle.sound.specs.Check.{Examined}
+use Rattle.extracts.specs.declared.Scan.{Scan}
 
 -- Row i is of frame r and has no parent.
 abbrev pub heads : List Row → ℕ → ℕ → Bool
@@ -39,9 +41,14 @@ pub record Gathered (r : ℕ) (rows : List Row) (i k : ℕ) (own : List ℕ) : T
   pub many : k ≡ count (inWindow r rows) i
   pub words-are : own ≡ put (replicate 2051 0) 3 (flatMap rowWords (gather (inWindow r rows) (rowAt rows) i))
 
--- Row k is hidden and stands at place i or later.
-abbrev pub hiddenFrom : List Row → ℕ → ℕ → Bool
-hiddenFrom rows i k = leb i k && hidden rows k
+-- What a walk has found of the first i rows.
+pub record Scans (rows : List Row) (i : ℕ) (s : Scan) : Type 0 where
+  pub shown-are : s .shown ≡ count (isShown rows) i
+  pub hidden-are : s .hidden ≡ count (hidden rows) i
+  pub taken-are : s .taken ≡ count (hidden rows) (s .last .0)
+  pub last-is : s .last .0 ≡ latest (shownStep rows) i
+  pub upcoming-is : s .upcoming .0 ≡ earliest (λ k. ltb (s .last .0) k && hidden rows k) i
+  pub under : Under (frameAt rows) i (s .high .0)
 
 -- Row k of `own` is there and holds the document of row i.
 abbrev pub meets : List ℕ → ℕ → List ℕ → ℕ → Bool

@@ -2,7 +2,7 @@
 // the words of the copy, 3 + 4 * 512 = 2051, are lent by them.
 //
 // What bounds it, for n rows: the window's rows are copied in one walk, in which a row climbs unless its parent is one of those in mind (`members`). Where the window stands is
-// read off its flags: one walk for the latest shown step, one on to the next hidden row, and two counts. Putting the flags back is one walk over both records.
+// read off its flags in one walk more. Putting the flags back is one walk over both records.
 use base::FrameNo;
 use base::RowPlace;
 use members::Known;
@@ -11,20 +11,18 @@ use reads::NONE;
 use sound::Stand;
 ghost use mathlib.Core.Bool.{So, cond};
 ghost use mathlib.Core.Path.{_≡_};
-ghost use Prim.Native.Nat.{_<_};
+ghost use Prim.Native.Nat.{_+_, _<_};
 ghost use lib.ListN.{length, replicate};
 ghost use lib.Dec.{eqb};
-ghost use Rattle.rules.specs.Below.{count, earliest, latest};
-ghost use Rattle.rules.specs.Rows.{rowAt, frameAt, isShown};
+ghost use Rattle.rules.specs.Rows.{rowAt, frameAt};
 ghost use Rattle.rules.specs.Windows.{isRoot};
 ghost use Rattle.rules.specs.Words.{capacity, rowsOf, written};
 ghost use Rattle.rules.specs.Calls.{windowIn};
 ghost use Rattle.reads.specs.Within.{Before, Within};
-ghost use Rattle.laws.proofs.Hidden.{hidden, shownStep};
 ghost use Rattle.members.specs.Members.{Recalls, Sided};
 ghost use Rattle.sound.specs.Check.{Examined};
 ghost use Rattle.sound.specs.Survey.{alone?, Located, standOf};
-ghost use Rattle.extracts.specs.Windows.{heads, otherRoot, FirstOther, Starts, Gathers, Gathered, hiddenFrom, Gives, PutBack};
+ghost use Rattle.extracts.specs.Windows.{heads, otherRoot, FirstOther, Starts, Gathers, Gathered, Scans, Gives, PutBack};
 
 // Whether a row is of a root frame, and that is this one.
 fn is_head(words: &[u32], at: RowPlace, root: FrameNo) -> bool
@@ -151,69 +149,90 @@ pub fn take_out(words: &[u32], root: FrameNo, first: RowPlace, own: &mut [u32])
 
 // WHERE A WINDOW STANDS, BY ITS FLAGS
 
-// One place or the other.
-fn either(first: bool, a: RowPlace, b: RowPlace) -> RowPlace
-    ensures { λ r. ⌜ r .0 ≡ cond first (a .0) (b .0) ⌝ }
-{
-    if first { a } else { b }
+// What a walk over the rows has found: how many are shown, how many hidden, how many of these came before the latest shown step, its place, the first hidden row after it (the walk's own place
+// where there is none yet), and a bound on the frame numbers.
+struct Scan {
+    shown: usize,
+    hidden: usize,
+    taken: usize,
+    last: RowPlace,
+    upcoming: RowPlace,
+    high: FrameNo,
 }
 
-// The latest shown step of a sound record; its first row where there is none.
-fn latest_shown(own: &[u32]) -> RowPlace
+// The place after a row where no hidden one was found before it, else the one found.
+fn onward(at: RowPlace, upcoming: RowPlace) -> RowPlace
+    requires { ⌜ at .0 < 512 ⌝ }
+    ensures { λ r. ⌜ r .0 ≡ cond (eqb (upcoming .0) (at .0)) (at .0 + 1) (upcoming .0) ⌝ }
+{
+    if upcoming.0 == at.0 {
+        RowPlace(at.0 + 1)
+    } else {
+        upcoming
+    }
+}
+
+// The walk with one row more.
+fn scan_row(own: &[u32], at: RowPlace, s: Scan) -> Scan
+    requires { ⌜ Within (now own) (at .0) × (0 < at .0) × Scans (rowsOf (now own)) (at .0) s ⌝ }
+    ensures { λ r. ⌜ Scans (rowsOf (now (own .entry))) (at .0 + 1) r ⌝ }
+{
+    let high = reads::higher(s.high, reads::frame(own, at));
+    let last = s.last;
+    let upcoming = s.upcoming;
+    if !reads::is_shown(own, at) {
+        return Scan {
+            shown: s.shown,
+            hidden: s.hidden + 1,
+            taken: s.taken,
+            last,
+            upcoming,
+            high,
+        };
+    }
+    if reads::is_step(own, at, s.high) {
+        return Scan {
+            shown: s.shown + 1,
+            hidden: s.hidden,
+            taken: s.hidden,
+            last: at,
+            upcoming: RowPlace(at.0 + 1),
+            high,
+        };
+    }
+    let upcoming = onward(at, upcoming);
+    Scan {
+        shown: s.shown + 1,
+        hidden: s.hidden,
+        taken: s.taken,
+        last,
+        upcoming,
+        high,
+    }
+}
+
+// The walk over all rows of a sound record.
+fn scan_all(own: &[u32]) -> Scan
     requires { ⌜ Examined (now own) ⌝ }
-    ensures { λ r. ⌜ r .0 ≡ latest (shownStep (rowsOf (now (own .entry)))) (length (rowsOf (now (own .entry)))) ⌝ }
+    ensures { λ r. ⌜ Scans (rowsOf (now (own .entry))) (length (rowsOf (now (own .entry)))) r ⌝ }
 {
     let n = rows::row_count(own);
-    let mut high = FrameNo(0);
-    let mut last = RowPlace(0);
-    let mut i = 0;
+    let shown = reads::is_shown(own, RowPlace(0));
+    let high = reads::frame(own, RowPlace(0));
+    let mut s = Scan {
+        shown: shown as usize,
+        hidden: !shown as usize,
+        taken: 0,
+        last: RowPlace(0),
+        upcoming: RowPlace(1),
+        high,
+    };
+    let mut i = 1;
     while i < n {
-        let at = RowPlace(i);
-        let step = sound::is_shown_step(own, at, high);
-        last = either(step, at, last);
-        high = reads::higher(high, reads::frame(own, at));
+        s = scan_row(own, RowPlace(i), s);
         i += 1;
     }
-    last
-}
-
-// Whether a row is hidden.
-fn is_hidden(own: &[u32], at: RowPlace) -> bool
-    requires { ⌜ Within (now own) (at .0) ⌝ }
-    ensures { λ r. ⌜ r ≡ hidden (rowsOf (now (own .entry))) (at .0) ⌝ }
-{
-    !reads::is_shown(own, at)
-}
-
-// The first hidden row from a place on; the rows' end where there is none.
-fn first_hidden(own: &[u32], from: RowPlace) -> RowPlace
-    requires { ⌜ Before (now own) (from .0) ⌝ }
-    ensures { λ r. ⌜ r .0 ≡ earliest (hiddenFrom (rowsOf (now (own .entry))) (from .0)) (length (rowsOf (now (own .entry)))) ⌝ }
-{
-    let n = rows::row_count(own);
-    let mut i = from.0;
-    while i < n {
-        if is_hidden(own, RowPlace(i)) {
-            return RowPlace(i);
-        }
-        i += 1;
-    }
-    RowPlace(n)
-}
-
-// How many rows before a place are shown.
-fn count_shown(own: &[u32], to: RowPlace) -> usize
-    requires { ⌜ Before (now own) (to .0) ⌝ }
-    ensures { λ r. ⌜ r ≡ count (isShown (rowsOf (now (own .entry)))) (to .0) ⌝ }
-{
-    let end = to.0;
-    let mut k = 0;
-    let mut i = 0;
-    while i < end {
-        k += reads::is_shown(own, RowPlace(i)) as usize;
-        i += 1;
-    }
-    k
+    s
 }
 
 // Where the window of a sound record of one window stands.
@@ -221,15 +240,13 @@ pub fn stand_alone(own: &[u32]) -> Stand
     requires { ⌜ Examined (now own) × So (alone? (rowsOf (now own))) ⌝ }
     ensures { λ r. ⌜ r ≡ standOf (rowsOf (now (own .entry))) ⌝ }
 {
-    let n = rows::row_count(own);
-    let last = latest_shown(own);
-    let upcoming = first_hidden(own, RowPlace(last.0 + 1));
-    let frames = count_shown(own, RowPlace(n));
-    let begun = count_shown(own, upcoming);
+    let s = scan_all(own);
+    let upcoming = s.upcoming;
+    let last = s.last;
     Stand {
-        frames,
-        steps: n - frames,
-        position: upcoming.0 - begun,
+        frames: s.shown,
+        steps: s.hidden,
+        position: s.taken,
         upcoming,
         last,
     }
