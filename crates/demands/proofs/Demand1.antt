@@ -16,8 +16,9 @@ use Rattle.rules.specs.Windows.{isRoot}
 use Rattle.rules.specs.Words.{capacity, tableOf, rowsOf, written}
 use Rattle.rules.specs.Asks.{stretched}
 use Rattle.rules.specs.Sound.{SoundTable, Sound}
-use Rattle.rules.specs.Saved.{parentOf, saved, loaded, fromSave?}
+use Rattle.rules.specs.Saved.{parentOf, saved, numberAt, documentsIn, shownIn, loaded, fromSave?}
 use Rattle.rules.specs.OldSaved.{oldSaved, oldLoaded, S2rising, S5alone, fromOldSave?}
+use Rattle.rules.specs.Contents.{notContents}
 use Rattle.rules.specs.Below.{someBelow}
 use Rattle.rules.specs.Places.{Place, finite, finitePlace, scaled, entries, documentIn, kindIn, placeIn, isOf, sane, fineAt, fine?, placeOf, freed}
 use Rattle.rules.specs.Calls.{Call, Answer, Rung, _when_, _naming_, short, unsound, absent, hidden, hider, outside, noFrame, rootFrame, noRoot, windowIn, badPlaces, notFinite, overZoomed, noEntry, refusals, outcome, Given}
@@ -30,7 +31,7 @@ use Rattle.laws.proofs.OldLoads.{from-old-save-is, from-old-save-in}
 use Rattle.laws.proofs.Stores.{fine-out, freed-entries, freed-document, spot-past, past-spot}
 use Rattle.laws.proofs.Calls.{refused-when, refused-keeps}
 use Rattle.demands.proofs.Nearest.{hider-is, is-hider}
-use Rattle.demands.specs.Refuses.{Short, Unsound, SavedBySome, SavedThen, StandsAt, Absent, Hidden, Outside, RowOf, NoFrame, RootFrame, NoRoot, ParentHidden, Nearest, ParentNearest, Endless, NotFinite, BadPlaces, NoEntry, Line, _if_, _carrying_, lines, numbers, among, First, HoldsIn, Applies, Demand1, paper, SmallestFirst}
+use Rattle.demands.specs.Refuses.{Short, Unsound, SavedBySome, SavedThen, NotContents, StandsAt, Absent, Hidden, Outside, RowOf, NoFrame, RootFrame, NoRoot, ParentHidden, Nearest, ParentNearest, Endless, NotFinite, BadPlaces, NoEntry, Line, _if_, _carrying_, lines, numbers, among, First, HoldsIn, Applies, Demand1, paper, SmallestFirst}
 
 -- A rung and a line say the same: the number, when, and what it carries then.
 record Agree (r : Rung) (l : Line) : Type 0 where
@@ -235,6 +236,13 @@ saved-then-is bytes = (
   λ w. subst (λ b. So (fromOldSave? b)) (w .4) (from-old-save-in _ (record { sound = table-of (w .0) (w .1); order = w .2; alone = w .3 })),
 )
 
+-- The contents, clause by clause.
+not-contents-is : (width : ℕ) (bytes : List ℕ) → Ref (notContents width bytes) (NotContents width bytes)
+unfolding notContents
+not-contents-is width bytes =
+    let F = numberAt bytes 0 in
+    ref-or (ref-or (ref-or (ref-or (ref-eq F 0) (ref-lt _ _)) (ref-any (λ j. ref-not (ref-lt (shownIn bytes j) (documentsIn bytes j))) F)) (ref-lt 512 _)) (ref-not (ref-eq (length bytes) _))
+
 -- SCROLL PLACES
 
 either : (a b : Bool) {P Q : Type 0} → Ref (not a) P → Ref (not b) Q → Ref (not (a && b)) (P ⊎ Q)
@@ -323,6 +331,8 @@ listed (Call.Outline words root room) = refl
 listed (Call.Save words room) = refl
 listed (Call.Load words bytes) = refl
 listed (Call.LoadOld words bytes) = refl
+listed (Call.Contents bytes) = refl
+listed (Call.ContentsOld bytes) = refl
 listed (Call.SetPlace words places d place) = refl
 listed (Call.AskPlace words places d) = refl
 listed (Call.AskAtZoom words places d zoom) = refl
@@ -363,6 +373,8 @@ match (Call.Outline words root room) = on-window words root (λ s. (alone (ref-l
 match (Call.Save words room) = on-record words (λ s. (alone (ref-lt _ _), λ f. tt))
 match (Call.Load words bytes) = (alone (short-is words), λ f. (alone (ref-not (saved-is bytes)), λ f. (alone (ref-lt _ _), λ f. tt)))
 match (Call.LoadOld words bytes) = (alone (short-is words), λ f. (alone (ref-not (saved-then-is bytes)), λ f. (alone (ref-lt _ _), λ f. tt)))
+match (Call.Contents bytes) = (alone (not-contents-is 8 bytes), λ f. tt)
+match (Call.ContentsOld bytes) = (alone (not-contents-is 4 bytes), λ f. tt)
 match (Call.SetPlace words places d place) =
     on-record words (λ s. (alone (bad-is places), λ f. (alone (absent-is words d), λ f. (alone (not-finite-is place), λ f. (alone (no-entry-is words places d), λ f. tt)))))
 match (Call.AskPlace words places d) = on-record words (λ s. (alone (bad-is places), λ f. (alone (absent-is words d), λ f. tt)))
@@ -449,6 +461,8 @@ rise (Call.Outline words root room) first = absurd (omega arith)
 rise (Call.Save words room) first = (omega arith, (omega arith, (omega arith, tt)))
 rise (Call.Load words bytes) first = (omega arith, (omega arith, (omega arith, tt)))
 rise (Call.LoadOld words bytes) first = (omega arith, (omega arith, (omega arith, tt)))
+rise (Call.Contents bytes) first = absurd (omega arith)
+rise (Call.ContentsOld bytes) first = absurd (omega arith)
 rise (Call.SetPlace words places d place) first = absurd (omega arith)
 rise (Call.AskPlace words places d) first = absurd (omega arith)
 rise (Call.AskAtZoom words places d zoom) first = absurd (omega arith)

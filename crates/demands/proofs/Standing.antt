@@ -69,7 +69,7 @@ fresh-stands words wide a =
     subst Stands (sym (ap (λ o. getD (o .lent) 0 []) (outcome-accepted (Call.Fresh words) h)))
     (written-stands words freshTable wide (omega arith) (record { sound = in-room _ fresh-sound (omega arith); doc = omega arith; frame = omega arith }))
 
-number-wide : (bytes : List ℕ) → Bytes bytes → (k : ℕ) → numberAt bytes k ≤ none
+pub number-wide : (bytes : List ℕ) → Bytes bytes → (k : ℕ) → numberAt bytes k ≤ none
 number-wide bytes b k = let p = b k in let q = b (k + 1) in let r = b (k + 2) in let s = b (k + 3) in omega arith
 
 -- A loading call whose bytes, where they are taken, tell a sound table of 32-bit numbers.

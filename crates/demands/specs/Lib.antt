@@ -7,6 +7,7 @@ pub mod Refuses
 pub mod Hides
 pub mod Links
 pub mod Saving
+pub mod Contents
 pub mod Model
 pub mod Follows
 pub mod Note

@@ -1,6 +1,6 @@
 -- Demand 1: "It refuses only by the nine refusals of document 01, exactly when that document says, and then each lent word and byte reads as
 -- before." Document 02 adds to these.
-use Prim.Native.Nat.{ℕ, _≤_, _<_}
+use Prim.Native.Nat.{ℕ, _+_, _*_, _≤_, _<_}
 use mathlib.Core.List.{List, [], _∷_}
 use mathlib.Core.Logic.{_↔_, _⊎_}
 use mathlib.Core.Bool.{Bool, false, _||_, So}
@@ -16,7 +16,7 @@ use Rattle.rules.specs.Moves.{cleared, changes}
 use Rattle.rules.specs.Words.{capacity, tableOf, rowsOf}
 use Rattle.rules.specs.Sound.{Sound}
 use Rattle.rules.specs.Asks.{takenList, upcomingList, ownList, outlineOf}
-use Rattle.rules.specs.Saved.{saved, loaded}
+use Rattle.rules.specs.Saved.{saved, numberAt, documentsIn, shownIn, entriesIn, loaded}
 use Rattle.rules.specs.OldSaved.{oldSaved, oldLoaded, S2rising, S5alone}
 use Rattle.rules.specs.Places.{Place, scaled, entries, documentIn, kindIn, placeIn, placeOf}
 use Rattle.rules.specs.Calls.{Call, Answer, lentTo, windowIn, outcome}
@@ -47,6 +47,13 @@ SavedThen bytes = (words : List ℕ) × Sound words × Rises words × S5alone (r
 
 abbrev pub NotSavedThen : List ℕ → Type 0
 NotSavedThen bytes = SavedThen bytes → ⊥
+
+-- "3 when there is no frame, the contents don't fit, a shown place is not below its m, the documents exceed 512, or the length is not the form's" (document 02, L8): in
+-- the form's bodies an entry has so many bytes.
+abbrev pub NotContents : ℕ → List ℕ → Type 0
+NotContents width bytes =
+    (((numberAt bytes 0 ≡ 0 ⊎ length bytes < 12 + 16 * numberAt bytes 0) ⊎ ((j : ℕ) × (j < numberAt bytes 0) × (shownIn bytes j < documentsIn bytes j → ⊥)))
+    ⊎ 512 < entriesIn bytes) ⊎ (length bytes ≡ 12 + 16 * numberAt bytes 0 + width * entriesIn bytes → ⊥)
 
 -- The document of row i is d.
 abbrev pub StandsAt : List ℕ → ℕ → ℕ → Type 0
@@ -193,6 +200,8 @@ lines (Call.Outline words root room) =
 lines (Call.Save words room) = 1 if Short words ∷ 2 if Unsound words ∷ 9 if TooShort room (saved (tableOf words)) ∷ []
 lines (Call.Load words bytes) = 1 if Short words ∷ 3 if NotSaved bytes ∷ 7 if (capacity words < length (loaded bytes .rows)) ∷ []
 lines (Call.LoadOld words bytes) = 1 if Short words ∷ 3 if NotSavedThen bytes ∷ 7 if (capacity words < length (oldLoaded bytes .rows)) ∷ []
+lines (Call.Contents bytes) = 3 if NotContents 8 bytes ∷ []
+lines (Call.ContentsOld bytes) = 3 if NotContents 4 bytes ∷ []
 lines (Call.SetPlace words places d place) =
     1 if Short words ∷ 2 if Unsound words ∷ 15 if BadPlaces places ∷ 4 if Absent words d ∷ 11 if NotFinite place ∷ 12 if NoEntry words places d ∷ []
 lines (Call.AskPlace words places d) = 1 if Short words ∷ 2 if Unsound words ∷ 15 if BadPlaces places ∷ 4 if Absent words d ∷ []
@@ -253,6 +262,8 @@ paper (Call.Outline words root room) = 2
 paper (Call.Save words room) = 1
 paper (Call.Load words bytes) = 1
 paper (Call.LoadOld words bytes) = 1
+paper (Call.Contents bytes) = 2
+paper (Call.ContentsOld bytes) = 2
 paper (Call.SetPlace words places d place) = 2
 paper (Call.AskPlace words places d) = 2
 paper (Call.AskAtZoom words places d zoom) = 2

@@ -8,7 +8,7 @@ use Rattle.rules.specs.Calls.{Call, Answer, Outcome, Rung, lentTo, refusals, ac
 use Rattle.rules.specs.Rows.{Table}
 use Rattle.rules.specs.Saved.{loaded, fromSave?}
 use Rattle.rules.specs.OldSaved.{oldLoaded, fromOldSave?}
-use Rattle.laws.specs.Loading.{loading, IsLoad}
+use Rattle.laws.specs.Loading.{loading, IsLoad, reading}
 use Rattle.laws.proofs.Tests.{test}
 
 abbrev numberIn : Answer → ℕ
@@ -88,6 +88,8 @@ accepted-gives c k vs e = subst IsGiven e (given c)
     given (Call.Save words room) = tt
     given (Call.Load words bytes) = tt
     given (Call.LoadOld words bytes) = tt
+    given (Call.Contents bytes) = tt
+    given (Call.ContentsOld bytes) = tt
     given (Call.SetPlace words places d place) = tt
     given (Call.AskPlace words places d) = tt
     given (Call.AskAtZoom words places d zoom) = tt
@@ -137,3 +139,13 @@ load-old-is words bytes = record { lends = refl; refuses = refl; accepts = refl 
 pub load-outcome : {c : Call} {words : List ℕ} {taken : Bool} {t : Table} → IsLoad c words taken t → outcome c ≡ loading words taken t
 unfolding outcome loading
 load-outcome is = rw (is .lends, is .refuses, is .accepts) refl
+
+-- CONTENTS
+
+pub contents-is : (bytes : List ℕ) → outcome (Call.Contents bytes) ≡ reading 8 bytes
+unfolding outcome refusals accepted ladder reading
+contents-is bytes = refl
+
+pub contents-old-is : (bytes : List ℕ) → outcome (Call.ContentsOld bytes) ≡ reading 4 bytes
+unfolding outcome refusals accepted ladder reading
+contents-old-is bytes = refl

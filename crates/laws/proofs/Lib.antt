@@ -29,6 +29,7 @@ pub mod Told
 pub mod Trips
 pub mod Loads
 pub mod OldLoads
+pub mod Contents
 pub mod Resaved
 pub mod Appended
 pub mod OutlineTexts

@@ -150,7 +150,7 @@ module _ (m : Form) where
     abbrev pub cellsOf : ℕ → ℕ
     cellsOf j = length (m .cells (t .rows) (frameNo t j))
 
-    pub length-cells : length (flatMap (m .cells (t .rows)) (frames t)) ≡ sum cellsOf (length (frames t))
+    length-cells : length (flatMap (m .cells (t .rows)) (frames t)) ≡ sum cellsOf (length (frames t))
     length-cells = ap (λ l. length (flatMap (m .cells (t .rows)) l)) (frames-tab t) ∙ length-flat (m .cells (t .rows)) (frameNo t) (length (frames t))
 
     entries-before : (j : ℕ) → before (entryOf (t .rows)) (frameNo t) j ≡ 4 * j

@@ -3,7 +3,7 @@ use Prim.Native.Nat.{ℕ, zero, suc, _+_, _-_, _*_, _≤_, _<_}
 use mathlib.Core.Bool.{Bool, false, _&&_, So, and-eq-true-iff}
 use mathlib.Core.List.{List, [], _∷_, _++_, flatMap, append-assoc, append-nil}
 use mathlib.Core.Logic.{_≢_, ⊎-elim}
-use mathlib.Core.Path.{_≡_, refl, sym, ap, _∙_}
+use mathlib.Core.Path.{_≡_, refl, sym, ap, ap₂, _∙_}
 use native.Mathlib.Nat.{not-suc-le-zero}
 use native.Mathlib.Omega.{arith}
 use lib.Dec.{eqb}
@@ -36,6 +36,12 @@ module _ (f : ℕ → ℕ) where
   unfolding sum
   sum-least zero h = omega arith
   sum-least (suc n) h = omega (arith, h n (omega arith), sum-least n (λ k l. h k (omega arith)))
+
+  -- One less in each.
+  pub sum-less : (n : ℕ) → ((k : ℕ) → k < n → 1 ≤ f k) → sum (λ k. f k - 1) n + n ≡ sum f n
+  unfolding sum
+  sum-less zero h = refl
+  sum-less (suc n) h = omega (arith, h n (omega arith), sum-less n (λ k l. h k (omega arith)))
 
   sum-zeros : (n : ℕ) → ((k : ℕ) → k < n → f k ≡ 0) → sum f n ≡ 0
   unfolding sum
@@ -121,13 +127,18 @@ module _ {A B : Type 0} (g : A → List B) where
         (λ a. let r = flat-found n i a in (r .0, r .1, omega arith, r .3, r .4))
         (λ a. (n, i - before n, omega arith, omega arith, omega arith))
 
--- The pieces of those numbers that pass, where the others' are empty.
-pub length-rising : {B : Type 0} (g : ℕ → List B) (p : ℕ → Bool) (n : ℕ) → ((k : ℕ) → p k ≡ false → length (g k) ≡ 0) →
-    length (flatMap g (rising p n)) ≡ sum (λ k. length (g k)) n
-unfolding flatMap gather sum
-length-rising g p zero h = refl
-length-rising g p (suc n) h =
-    let ih = length-rising g p n h in
-    test (p n)
-    (λ t. rw (t, flat-append g, length-append, flat-one g) (ap (λ l. l + length (g n)) ih))
-    (λ f. rw f (omega (arith, h n f)))
+-- A list's terms and one more; the terms of those numbers that pass, where the others' are 0.
+sum-snoc : (f : ℕ → ℕ) (xs : List ℕ) (x : ℕ) → sum (λ j. f (getD (xs ++ x ∷ []) j 0)) (length (xs ++ x ∷ [])) ≡ sum (λ j. f (getD xs j 0)) (length xs) + f x
+unfolding sum
+sum-snoc f xs x =
+    let n : length (xs ++ x ∷ []) ≡ suc (length xs) = omega (arith, length-append xs (x ∷ [])) in
+    let here : getD (xs ++ x ∷ []) (length xs) 0 ≡ x = ap (λ k. getD (xs ++ x ∷ []) k 0) (omega arith) ∙ getD-append-add xs (x ∷ []) 0 0 in
+    ap (sum (λ j. f (getD (xs ++ x ∷ []) j 0))) n
+    ∙ ap₂ _+_ (sum-same _ _ (length xs) (λ k l. ap f (List·getD-append xs (x ∷ []) 0 k l))) (ap f here)
+
+pub sum-rising : (f : ℕ → ℕ) (p : ℕ → Bool) (n : ℕ) → ((k : ℕ) → p k ≡ false → f k ≡ 0) → sum (λ j. f (getD (rising p n) j 0)) (length (rising p n)) ≡ sum f n
+unfolding gather sum
+sum-rising f p zero h = refl
+sum-rising f p (suc n) h =
+    let ih = sum-rising f p n h in
+    test (p n) (λ t. rw t (sum-snoc f (rising p n) n ∙ ap (λ s. s + f n) ih)) (λ o. rw o (omega (arith, h n o)))

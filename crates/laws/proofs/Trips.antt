@@ -3,12 +3,12 @@ use Prim.Native.Nat.{ℕ, _+_, _*_, _≤_, _<_}
 use mathlib.Core.Bool.{Bool, true, false, not, _&&_, So, and-eq-true-iff}
 use mathlib.Core.List.{List}
 use mathlib.Core.Logic.{_≢_}
-use mathlib.Core.Path.{_≡_, refl, sym, ap, ap₂, _∙_}
+use mathlib.Core.Path.{_≡_, refl, sym, ap, ap₂, subst, _∙_}
 use native.Mathlib.Omega.{arith}
 use lib.Dec.{eqb}
 use lib.ListN.{length, getD}
 use borrow.Author.Tests.{eqb-true, eqb-false, eq-eqb, ne-eqb, not-true}
-use Rattle.rules.specs.Below.{count, sum, gather}
+use Rattle.rules.specs.Below.{someBelow, count, sum, gather}
 use Rattle.rules.specs.Rows.{Row, Table, rowAt, docAt, frameAt, parentAt, shownAt, isShown, inFrame, isFrame, flag}
 use Rattle.rules.specs.Steps.{isStep, steps}
 use Rattle.rules.specs.Moves.{frames}
@@ -18,26 +18,25 @@ use Rattle.laws.proofs.Tests.{test, clash, off, by-order, and-true, som
 use Rattle.laws.proofs.Frames.{step-in, step-out}
 use Rattle.laws.proofs.Tree.{parent-of}
 use Rattle.laws.proofs.Standing.{count-rest}
-use Rattle.laws.proofs.Pieces.{sum-same, sum-within, sum-least, sum-ones, sum-classes, length-rising}
-use Rattle.laws.proofs.Numbers.{Form, oldForm, length-docsOf, frameNo, documents, length-cells, read-count, read-number, read-parent, read-documents, read-shown}
+use Rattle.laws.proofs.Pieces.{sum-same, sum-within, sum-least, sum-ones, sum-classes, sum-rising}
+use Rattle.laws.proofs.Numbers.{Form, length-docsOf, frameNo, documents, read-count, read-number, read-parent, read-documents, read-shown}
 use Rattle.laws.proofs.Told.{told-at, told-found}
 
-no-documents : (rows : List Row) (f : ℕ) → isFrame rows f ≡ false → length (docsOf rows f) ≡ 0
+pub no-documents : (rows : List Row) (f : ℕ) → isFrame rows f ≡ false → length (docsOf rows f) ≡ 0
 unfolding isFrame
 no-documents rows f h =
     length-docsOf rows f
     ∙ count-flat (inFrame rows f) (length rows) {i = 0} (omega arith) (λ k a l. off _ (λ s. clash (some-in (inFrame rows f) (length rows) l s) h))
     ∙ count-zero (inFrame rows f)
 
--- A frame has one first row.
-one-first : (rows : List Row) (f : ℕ) → So (isFrame rows f) → count (λ i. inFrame rows f i && not (isStep rows i)) (length rows) ≡ 1
-unfolding isFrame
-one-first rows f s =
-    let o = some-out (inFrame rows f) (length rows) s in
+-- A frame has one first row, also of the first n.
+pub first-one : (rows : List Row) (f n : ℕ) → So (someBelow n (inFrame rows f)) → count (λ i. inFrame rows f i && not (isStep rows i)) n ≡ 1
+first-one rows f n s =
+    let o = some-out (inFrame rows f) n s in
     let k = least (inFrame rows f) (o .0) (o .2) in
     let e = eqb-true (frameAt rows (k .0)) f (k .2) in
     let first = off (isStep rows (k .0)) (λ t. let j = step-out (frameAt rows) (k .0) t in k .3 (j .0) (j .1) (eq-eqb (frameAt rows (j .0)) f (j .2 ∙ e))) in
-    one-in (λ i. inFrame rows f i && not (isStep rows i)) (length rows) (k .0) (omega arith) (simp and-eq-true-iff (k .2, rw first refl)) (λ i l u.
+    one-in (λ i. inFrame rows f i && not (isStep rows i)) n (k .0) (omega arith) (simp and-eq-true-iff (k .2, rw first refl)) (λ i l u.
     let v = simp and-eq-true-iff at u in
     by-order i (k .0) (λ m. absurd (k .3 i m (v .0))) (λ m. m)
     (λ m. absurd (clash (step-in (frameAt rows) m (e ∙ sym (eqb-true (frameAt rows i) f (v .0)))) (not-true _ (v .1)))))
@@ -53,7 +52,7 @@ module _ {room : ℕ} (t : Table) (sound : SoundTable room t) where
   -- Each row is in one of the frames.
   pub all-documents : sum (documents t) (length (frames t)) ≡ length (t .rows)
   all-documents =
-      sym (length-cells oldForm t) ∙ length-rising (docsOf (t .rows)) (isFrame (t .rows)) (t .nextFrame) (no-documents (t .rows))
+      sum-rising (λ f. length (docsOf (t .rows) f)) (isFrame (t .rows)) (t .nextFrame) (no-documents (t .rows))
       ∙ sum-same _ _ (t .nextFrame) (λ f l. length-docsOf (t .rows) f ∙ count-same _ _ (length (t .rows)) (λ i m. sym (and-true _)))
       ∙ sum-classes (frameAt (t .rows)) (λ i. true) (length (t .rows)) (t .nextFrame) (sound .s3 .below)
       ∙ count-all (λ i. true) (length (t .rows)) (λ i l. refl)
@@ -72,14 +71,14 @@ module _ {room : ℕ} (t : Table) (sound : SoundTable room t) where
 
   -- Every row is a step or the first of its frame.
   pub steps-frames : steps (t .rows) + length (frames t) ≡ length (t .rows)
-  unfolding steps
+  unfolding steps isFrame
   steps-frames =
       let n = length (t .rows) in
       let first : ℕ → Bool = λ i. not (isStep (t .rows) i) in
       let firsts : count first n ≡ length (frames t) =
       sym (sum-classes (frameAt (t .rows)) first n (t .nextFrame) (sound .s3 .below))
       ∙ sum-ones (λ f. count (λ i. inFrame (t .rows) f i && first i) n) (isFrame (t .rows)) (t .nextFrame)
-      (one-first (t .rows))
+      (λ f. first-one (t .rows) f n)
       (λ f o.
       omega (arith, count-le (λ i. inFrame (t .rows) f i && first i) (inFrame (t .rows) f) n (λ k l u. (simp and-eq-true-iff at u) .0), length-docsOf (t .rows) f, no-documents (t .rows) f o))
       ∙ sym (length-gather (isFrame (t .rows)) (λ k. k) (t .nextFrame)) in
@@ -178,6 +177,16 @@ module _ {room : ℕ} (t : Table) (sound : SoundTable room t) where
       let i = nth (inFrame (t .rows) (frameNo t j)) (length (t .rows)) k (omega (arith, length-docsOf (t .rows) (frameNo t j))) in
       let e = eqb-true _ _ (i .2) in
       (i .0, i .1, e, ap (count (isFrame (t .rows))) e ∙ frame-is t sound j l .2, ap (λ f. count (inFrame (t .rows) f) (i .0)) e ∙ i .3)
+
+  -- The shown one of its documents is one of them.
+  pub shown-below : (j : ℕ) → j < length (frames t) → shownPlace (t .rows) (frameNo t j) < documents t j
+  shown-below j l =
+      let i = row-of j 0 l (some-documents t sound j l) in
+      let k = shown-row (i .0) (i .1) in
+      let f = frameNo t j in
+      let v = simp and-eq-true-iff at (k .2) in
+      let e : shownPlace (t .rows) f ≡ count (inFrame (t .rows) f) (k .0) = subst (λ f. shownPlace (t .rows) f ≡ count (inFrame (t .rows) f) (k .0)) (i .2) (shown-place (i .0) (i .1) (k .0) (k .1) (k .2)) in
+      omega (arith, length-docsOf (t .rows) f, count-in (inFrame (t .rows) f) (length (t .rows)) (k .1) (eq-eqb _ _ (eqb-true _ _ (v .0) ∙ i .2)))
 
   -- A form that tells a row's document where its entry is tells the row there.
   module _ (m : Form) (width : ℕ) (docs : (i : ℕ) → i < length (t .rows) → documentAt width (savedWith (m .body) t) (entry-of t i) ≡ docAt (t .rows) i) where

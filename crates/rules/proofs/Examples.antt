@@ -23,6 +23,7 @@ use Rattle.rules.specs.Sound.{soundTable?, sound?}
 use Rattle.rules.specs.Asks.{takenList, upcomingList, stretched, outlineFrame, outlineOf}
 use Rattle.rules.specs.Saved.{number, docsOf, shownPlace, parentOf, contents, savedWith, body, toldRow, toldRows, rowFor, loaded, fromSave?}
 use Rattle.rules.specs.OldSaved.{oldBody, oldLoaded, oldTable?, fromOldSave?}
+use Rattle.rules.specs.Contents.{positionIn, stepsIn, notContents}
 use Rattle.rules.specs.Places.{Place, finite, entryOf, fine?, placeOf, freedTo, spot, placed}
 use Rattle.rules.specs.Calls.{Call, Answer, Outcome, refusals, accepted, ladder, outcome}
 use Rattle.rules.specs.Runs.{Move, on, after, run}
@@ -799,6 +800,66 @@ unfolding someBelow allBelow count earliest latest sum tab gather inRecord place
     put tableOf wordsOf written soundTable? sound? takenList upcomingList outlineFrame outlineOf
     number docsOf shownPlace parentOf contents savedWith body toldRow toldRows rowFor loaded fromSave? oldBody oldLoaded oldTable? fromOldSave? refusals accepted ladder outcome flatMap
 windowed-hold = refl
+
+-- CONTENTS (document 02, L8)
+
+-- Bytes with these contents, F told to be so many, and bodies of so many bytes. All numbers that Contents has no use for are sevens.
+abbrev line : ℕ → ℕ → List ℕ
+line m shown = replicate 8 7 ++ (number m ++ number shown)
+
+abbrev telling : ℕ → List (List ℕ) → ℕ → List ℕ
+telling frames lines rest = number frames ++ (replicate 8 7 ++ (flatMap (λ l. l) lines ++ replicate rest 7))
+
+abbrev standsAt : ℕ → ℕ → Answer
+standsAt p s = Answer.gives (p ∷ s ∷ [])
+
+abbrev pub greyed : List Small
+greyed =
+    -- "On bytes that loading accepts, old or new form, the answer equals the position and steps of the loaded record": X, P1; Fresh; a document replaced.
+    small (Call.Contents bytesOfX) (standsAt 1 2) []
+    ∷ small (Call.ContentsOld oldBytesOfX) (standsAt 1 2) []
+    ∷ small (Call.Contents freshBytes) (standsAt 0 0) []
+    ∷ small (Call.ContentsOld oldFreshBytes) (standsAt 0 0) []
+    ∷ small (Call.Contents bytesOfRenewed) (standsAt 0 1) []
+    -- "Contents answers are sums over all windows" (L10): 0 of 1 and 1 of 1.
+    ∷ small (Call.Contents bytesOfPair) (standsAt 1 2) []
+    -- "position is the sum of the shown places, steps the sum of m - 1"
+    ∷ small (Call.Contents (telling 3 (line 4 2 ∷ line 1 0 ∷ line 5 4 ∷ []) 80)) (standsAt 6 7) []
+    -- "no byte after the contents has any effect": bodies that loading refuses.
+    ∷ small (Call.Contents (fallingAt 0 2 1)) (standsAt 0 2) []
+    ∷ small (Call.ContentsOld oldBytesOfPair) (standsAt 1 2) []
+    -- "The caller names the form." "the length is not the form's": that of the other; one byte or one entry more or less.
+    ∷ small (Call.Contents oldBytesOfX) (no 3) []
+    ∷ small (Call.ContentsOld bytesOfX) (no 3) []
+    ∷ small (Call.Contents (telling 1 (line 3 1 ∷ []) 24)) (standsAt 1 2) []
+    ∷ small (Call.Contents (telling 1 (line 3 1 ∷ []) 25)) (no 3) []
+    ∷ small (Call.Contents (telling 1 (line 3 1 ∷ []) 23)) (no 3) []
+    ∷ small (Call.Contents (telling 1 (line 3 1 ∷ []) 32)) (no 3) []
+    ∷ small (Call.ContentsOld (telling 1 (line 3 1 ∷ []) 12)) (standsAt 1 2) []
+    ∷ small (Call.ContentsOld (telling 1 (line 3 1 ∷ []) 8)) (no 3) []
+    -- "there is no frame"
+    ∷ small (Call.Contents []) (no 3) []
+    ∷ small (Call.ContentsOld []) (no 3) []
+    ∷ small (Call.Contents (telling 0 [] 0)) (no 3) []
+    ∷ small (Call.ContentsOld (telling 0 [] 0)) (no 3) []
+    -- "the contents don't fit": a number alone; no line, of so many frames that 12 + 16F is 12 in 32 bits; as many as there can be.
+    ∷ small (Call.Contents (number 1)) (no 3) []
+    ∷ small (Call.Contents (telling 268435456 [] 0)) (no 3) []
+    ∷ small (Call.ContentsOld (telling none [] 0)) (no 3) []
+    -- "a shown place is not below its m": equal to it, above it, of the first frame or the last, and of one without documents.
+    ∷ small (Call.Contents (telling 1 (line 1 1 ∷ []) 8)) (no 3) []
+    ∷ small (Call.ContentsOld (telling 2 (line 2 1 ∷ line 2 3 ∷ []) 16)) (no 3) []
+    ∷ small (Call.Contents (telling 2 (line 2 2 ∷ line 2 0 ∷ []) 32)) (no 3) []
+    ∷ small (Call.Contents (telling 2 (line 0 0 ∷ line 1 0 ∷ []) 8)) (no 3) []
+    -- "the documents exceed 512", also where they do by so much that they are 1 in 32 bits.
+    ∷ small (Call.ContentsOld (telling 2 (line 500 499 ∷ line 12 0 ∷ []) 2048)) (standsAt 499 510) []
+    ∷ small (Call.ContentsOld (telling 2 (line 500 499 ∷ line 13 0 ∷ []) 2052)) (no 3) []
+    ∷ small (Call.Contents (telling 2 (line none 0 ∷ line 2 0 ∷ []) 8)) (no 3) []
+    ∷ []
+
+pub greyed-hold : map (λ s. outcome (s .call)) greyed ≡ map (λ s. s .expected) greyed
+unfolding someBelow sum number positionIn stepsIn notContents refusals accepted ladder outcome flatMap
+greyed-hold = refl
 
 -- "at most 512; words past 3 + 4C are neither read nor written": of 2056 words Fresh keeps the last five. A row by itself, since to compute so
 -- many stores one by one takes long.

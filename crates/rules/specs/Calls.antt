@@ -17,6 +17,7 @@ use Rattle.rules.specs.Sound.{sound?}
 use Rattle.rules.specs.Asks.{takenList, upcomingList, tooFar, stretched, outlineOf}
 use Rattle.rules.specs.Saved.{parentOf, saved, loaded, fromSave?}
 use Rattle.rules.specs.OldSaved.{oldLoaded, fromOldSave?}
+use Rattle.rules.specs.Contents.{positionIn, stepsIn, notContents}
 use Rattle.rules.specs.Places.{Place, finite, finitePlace, scaled, placeWords, fine?, placeOf, freed, noRoom, placed}
 
 -- A call with all that it is handed: `words` is the record, `room` a lent answer buffer, `parent`, `from` and `d` documents, `frame` a frame, `root` a window's
@@ -38,6 +39,8 @@ pub data Call : Type 0 where
   Save : (words : List ℕ) (room : List ℕ) → Call
   Load : (words : List ℕ) (bytes : List ℕ) → Call
   LoadOld : (words : List ℕ) (bytes : List ℕ) → Call
+  Contents : (bytes : List ℕ) → Call
+  ContentsOld : (bytes : List ℕ) → Call
   SetPlace : (words places : List ℕ) (d : ℕ) (place : Place) → Call
   AskPlace : (words places : List ℕ) (d : ℕ) → Call
   AskAtZoom : (words places : List ℕ) (d : ℕ) (zoom : Float) → Call
@@ -70,6 +73,8 @@ lentTo (Call.Outline words root room) = room ∷ []
 lentTo (Call.Save words room) = room ∷ []
 lentTo (Call.Load words bytes) = words ∷ []
 lentTo (Call.LoadOld words bytes) = words ∷ []
+lentTo (Call.Contents bytes) = []
+lentTo (Call.ContentsOld bytes) = []
 lentTo (Call.SetPlace words places d place) = places ∷ []
 lentTo (Call.AskPlace words places d) = []
 lentTo (Call.AskAtZoom words places d zoom) = []
@@ -189,6 +194,8 @@ refusals (Call.Outline words root room) =
 refusals (Call.Save words room) = 1 when short words ∷ 2 when unsound words ∷ 9 when tooShort room (saved (tableOf words)) ∷ []
 refusals (Call.Load words bytes) = 1 when short words ∷ 3 when not (fromSave? bytes) ∷ 7 when ltb (capacity words) (length (loaded bytes .rows)) ∷ []
 refusals (Call.LoadOld words bytes) = 1 when short words ∷ 3 when not (fromOldSave? bytes) ∷ 7 when ltb (capacity words) (length (oldLoaded bytes .rows)) ∷ []
+refusals (Call.Contents bytes) = 3 when notContents 8 bytes ∷ []
+refusals (Call.ContentsOld bytes) = 3 when notContents 4 bytes ∷ []
 refusals (Call.SetPlace words places d place) =
     1 when short words ∷ 2 when unsound words ∷ 15 when badPlaces places ∷ 4 when absent words d ∷ 11 when notFinite place ∷ 12 when noEntry words places d ∷ []
 refusals (Call.AskPlace words places d) = 1 when short words ∷ 2 when unsound words ∷ 15 when badPlaces places ∷ 4 when absent words d ∷ []
@@ -225,6 +232,8 @@ accepted (Call.Outline words root room) =
 accepted (Call.Save words room) = length (saved (tableOf words)) ∷ [] leaving put room 0 (saved (tableOf words)) ∷ []
 accepted (Call.Load words bytes) = length (loaded bytes .rows) ∷ [] leaving written words (loaded bytes) ∷ []
 accepted (Call.LoadOld words bytes) = length (oldLoaded bytes .rows) ∷ [] leaving written words (oldLoaded bytes) ∷ []
+accepted (Call.Contents bytes) = positionIn bytes ∷ stepsIn bytes ∷ [] leaving []
+accepted (Call.ContentsOld bytes) = positionIn bytes ∷ stepsIn bytes ∷ [] leaving []
 accepted (Call.SetPlace words places d place) = [] leaving placed (freed (rowsOf words) places) d place ∷ []
 accepted (Call.AskPlace words places d) = placeWords (placeOf places d) leaving []
 accepted (Call.AskAtZoom words places d zoom) = placeWords (scaled zoom (placeOf places d)) leaving []

@@ -9,6 +9,7 @@ pub mod Sound
 pub mod Asks
 pub mod Saved
 pub mod OldSaved
+pub mod Contents
 pub mod Places
 pub mod Calls
 pub mod Runs
