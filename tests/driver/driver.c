@@ -41,14 +41,16 @@ u32 frame_history_outline(const u32 *words, usize n, u32 root, u32 *pairs, usize
 u32 frame_history_save(const u32 *words, usize n, u8 *bytes, usize bytes_n, u32 *length);
 u32 frame_history_load(u32 *words, usize n, const u8 *bytes, usize bytes_n, u32 *rows);
 u32 frame_history_load_old(u32 *words, usize n, const u8 *bytes, usize bytes_n, u32 *rows);
+u32 frame_history_contents(const u8 *bytes, usize bytes_n, u32 *position, u32 *steps);
+u32 frame_history_contents_old(const u8 *bytes, usize bytes_n, u32 *position, u32 *steps);
 u32 frame_history_place_itself(const u32 *words, usize n, u64 *places, usize places_n, u32 document);
 u32 frame_history_place_at(const u32 *words, usize n, u64 *places, usize places_n, u32 document, point at);
 u32 frame_history_place(const u32 *words, usize n, const u64 *places, usize places_n, u32 document, u32 *kind, double *x, double *y);
 u32 frame_history_place_at_zoom(const u32 *words, usize n, const u64 *places, usize places_n, u32 document, double zoom, u32 *kind, double *x, double *y);
 
 enum {
-  FRESH, OPEN, NAVIGATE, TRAVERSE, DROP, REPLACE, TAB, POSITION, VISIBLE, LISTS, STRETCH, OUTLINE, SAVE, LOAD, LOAD_OLD, PLACE_ITSELF, PLACE_AT, PLACE,
-  PLACE_AT_ZOOM, NO_CALL = 99
+  FRESH, OPEN, NAVIGATE, TRAVERSE, DROP, REPLACE, TAB, POSITION, VISIBLE, LISTS, STRETCH, OUTLINE, SAVE, LOAD, LOAD_OLD, CONTENTS, CONTENTS_OLD,
+  PLACE_ITSELF, PLACE_AT, PLACE, PLACE_AT_ZOOM, NO_CALL = 99
 };
 enum { WORDS, FIRST, SECOND, PLACES, BYTES, RUNS };
 enum { HEAD = 21, PAGE = 65536, AREA = 2 * PAGE, GUARD = 64 };
@@ -172,6 +174,8 @@ static u32 call(const u32 *head, u8 **run) {
   case SAVE: return frame_history_save(words, n, bytes, bytes_n, a);
   case LOAD: return frame_history_load(words, n, bytes, bytes_n, a);
   case LOAD_OLD: return frame_history_load_old(words, n, bytes, bytes_n, a);
+  case CONTENTS: return frame_history_contents(bytes, bytes_n, a, b);
+  case CONTENTS_OLD: return frame_history_contents_old(bytes, bytes_n, a, b);
   case PLACE_ITSELF: return frame_history_place_itself(words, n, places, places_n, number);
   case PLACE_AT: return frame_history_place_at(words, n, places, places_n, number, (point){given[0].value, given[1].value});
   case PLACE: return frame_history_place(words, n, places, places_n, number, a, x, y);

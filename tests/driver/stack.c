@@ -63,6 +63,8 @@ static uint32_t outline(lent *l) { return frame_history_outline(l->words, l->n, 
 static uint32_t save(lent *l) { return frame_history_save(l->words, l->n, l->bytes, l->bytes_n, l->outs); }
 static uint32_t load(lent *l) { return frame_history_load(l->words, l->n, l->bytes, l->bytes_n, l->outs); }
 static uint32_t load_old(lent *l) { return frame_history_load_old(l->words, l->n, l->bytes, l->bytes_n, l->outs); }
+static uint32_t contents(lent *l) { return frame_history_contents(l->bytes, l->bytes_n, l->outs, l->outs + 1); }
+static uint32_t contents_old(lent *l) { return frame_history_contents_old(l->bytes, l->bytes_n, l->outs, l->outs + 1); }
 static uint32_t place_itself(lent *l) {
   return frame_history_place_itself(l->words, l->n, (uint64_t *)l->places, 4 * l->entries, l->number);
 }
@@ -105,6 +107,8 @@ static const struct { const char *name; made *make; int begins, windows; size_t 
   {"load", load, 1, ALL, FRAME_HISTORY_LOAD_STACK, 0,
    "a record of 2051 words, 8204 bytes, since the host's words are written only once the bytes are known to be Save's"},
   {"load_old", load_old, 1, ALL, FRAME_HISTORY_LOAD_STACK, 0, "as load"},
+  {"contents", contents, 0, ALL, FRAME_HISTORY_STACK, 0, "saved registers and the sums: it has no record"},
+  {"contents_old", contents_old, 0, ALL, FRAME_HISTORY_STACK, 0, "as contents"},
   {"place_itself", place_itself, 2, ALL, FRAME_HISTORY_STACK, 0, "as open, once more for the part that both calls that set a place share"},
   {"place_at", place_at, 2, ALL, FRAME_HISTORY_STACK, 0, "as place_itself"},
   {"place", place, 2, ALL, FRAME_HISTORY_STACK, 0, "as open, with the place before it is told, and two of its eight arguments"},
@@ -484,6 +488,29 @@ static void on_bytes(made *loads, lent *l, size_t length, size_t entry) {
   l->n = WORDS;
 }
 
+/* The call that reads the contents of a form on its bytes, of this length: whole; with bodies that no loading call takes; cut, longer, empty; with no frame, one
+   more, as many as there can be, and a last one that shows none of its documents or has too many. */
+static void on_contents(made *tells, lent *l, size_t length) {
+  size_t frame = 16 * get(l->bytes) - 4, docs = get(l->bytes + frame + 8);
+  uint32_t was = get(l->bytes + length - 4);
+  l->bytes_n = length;
+  try(tells, l, 0, 0);
+  put(l->bytes + length - 4, NONE);
+  try(tells, l, 0, 0);
+  put(l->bytes + length - 4, was);
+  on_changed(tells, l, 0, 0);
+  on_changed(tells, l, 0, get(l->bytes) + 1);
+  on_changed(tells, l, 0, NONE);
+  on_changed(tells, l, frame + 8, 513);
+  on_changed(tells, l, frame + 12, (uint32_t)docs);
+  const size_t lengths[] = {0, length - 1, length + 1};
+  for (int i = 0; i < 3; i++) {
+    l->bytes_n = lengths[i] < BYTES ? lengths[i] : 0;
+    try(tells, l, 0, FRAME_HISTORY_NOT_SAVED);
+  }
+  l->bytes_n = length;
+}
+
 /* The bytes that Save wrote in the old form, which has no row places; their length. */
 static size_t to_old(lent *l) {
   uint8_t *bodies = l->bytes + 12 + 16 * get(l->bytes);
@@ -492,13 +519,16 @@ static size_t to_old(lent *l) {
 }
 
 /* Both loading calls: Load on what Save writes, with a place twice too; the other on the same bytes, and on those of the old form, which only records
-   of one window have whose numbers rise. */
+   of one window have whose numbers rise. The contents of all of them. */
 static void on_load(lent *l, int rises) {
   size_t length = build(save, l, 0), bodies = 12 + 16 * get(l->bytes);
   on_bytes(load, l, length, 8);
   on_changed(load, l, bodies + 4, 1);
   try(load_old, l, 0, FRAME_HISTORY_NOT_SAVED);
+  on_contents(contents, l, length);
+  try(contents_old, l, 0, FRAME_HISTORY_NOT_SAVED);
   length = to_old(l);
+  on_contents(contents_old, l, length);
   if (rises && l->windows == ONE) on_bytes(load_old, l, length, 4);
   l->bytes_n = length;
   if (l->windows == SEVERAL) try(load_old, l, 0, FRAME_HISTORY_NOT_SAVED);

@@ -2,7 +2,7 @@
 //! smallest number. An error is the refusal; then nothing lent was written.
 use crate::history::History;
 use crate::record::{capacity, rows, write, Row, FEWEST_WORDS, NONE};
-use crate::saved::{bytes_of, old_record_of, record_of};
+use crate::saved::{bytes_of, contents_of, old_record_of, record_of};
 use crate::sound::is_sound;
 use crate::windows::{root_frames, windows};
 
@@ -281,6 +281,15 @@ fn load_by(record_of: fn(&[u8]) -> Option<Vec<u32>>, words: &mut [u32], bytes: &
     refuse_when(7, record[0] as usize > capacity(words.len()))?;
     write(words, record[1], record[2], &rows(&record));
     Ok(record[0])
+}
+
+/// Answers position and steps of what was saved, the sums over all its windows, from the contents alone. "The caller names the form."
+pub fn contents(bytes: &[u8]) -> Answer<(u32, u32)> {
+    contents_of(bytes, 8).ok_or(3.into())
+}
+
+pub fn contents_old(bytes: &[u8]) -> Answer<(u32, u32)> {
+    contents_of(bytes, 4).ok_or(3.into())
 }
 
 /// Writes an answer to the front of a lent buffer, or refuses with 9; what lies past it is kept.

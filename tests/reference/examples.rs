@@ -94,6 +94,7 @@ pub fn check_all() -> u32 {
     replaced_saved_examples(&mut checks);
     old_saved_examples(&mut checks);
     windows_saved_examples(&mut checks);
+    contents_examples(&mut checks);
     sound_clauses(&mut checks);
     script_examples(&mut checks);
     checks.held
@@ -923,6 +924,55 @@ fn windows_saved_examples(c: &mut Checks) {
     let p9 = |parent: u32| to_bytes(&[3, 5, 3, 0, NONE, 1, 0, 1, 0, 2, 0, 2, parent, 2, 1, 0, 0, 1, 1, 3, 3, 2, 2, 4, 4]);
     c.same("in order by windows", load(&mut [0; 35], &p9(NONE)), Ok(5));
     c.same("not in order in one", load(&mut [0; 35], &p9(0)), no(3));
+}
+
+/// L8: "position is the sum of the shown places, steps the sum of m - 1", and when the contents are refused.
+fn contents_examples(c: &mut Checks) {
+    let x = record_x();
+    let (bytes, old) = (saved(&x), old_bytes_of(&x));
+    c.same("X", contents(&bytes), Ok((1, 2)));
+    c.same("X in the old form", contents_old(&old), Ok((1, 2)));
+    c.same("the caller names the form", (contents(&old), contents_old(&bytes)), (no(3), no(3)));
+    for at in 0..bytes.len() {
+        let mut other = bytes.clone();
+        other[at] = 0xee;
+        let after = at >= 12 + 16 * 4 || (4..12).contains(&at) || at >= 12 && (at - 12) % 16 < 8;
+        c.same("next numbers, frames, parents and bodies have no part in it", contents(&other) == Ok((1, 2)), after);
+        c.same("cut short", contents(&bytes[..at]), no(3));
+    }
+    // Lines with a frame and a parent that no record has, and bodies of sevens.
+    let telling = |frames: u32, lines: &[[u32; 2]], rest: usize| {
+        let numbers: Vec<u32> = [frames, 7, 7].into_iter().chain(lines.iter().flat_map(|[m, shown]| [7, 7, *m, *shown])).collect();
+        [to_bytes(&numbers), vec![7; rest]].concat()
+    };
+    c.same("three frames", contents(&telling(3, &[[4, 2], [1, 0], [5, 4]], 80)), Ok((6, 7)));
+    c.same("512 documents", contents(&telling(2, &[[500, 499], [12, 0]], 4096)), Ok((499, 510)));
+    c.same("512 frames", contents_old(&telling(512, &[[1, 0]; 512], 2048)), Ok((0, 0)));
+    for (name, bytes) in [
+        ("no bytes", vec![]),
+        ("no frame", telling(0, &[], 0)),
+        ("a number alone", to_bytes(&[1])),
+        ("no line", telling(1, &[], 0)),
+        ("a line cut short", telling(1, &[], 15)),
+        ("as many frames as there can be", telling(NONE, &[], 0)),
+        ("12 + 16F is 12 in 32 bits", telling(1 << 28, &[], 0)),
+        ("12 + 16F is 28 in 32 bits", telling((1 << 28) + 1, &[[1, 0]], 8)),
+        ("a shown place equal to its m", telling(1, &[[1, 1]], 8)),
+        ("one above it in the last frame", telling(2, &[[2, 0], [2, NONE]], 32)),
+        ("no documents", telling(2, &[[0, 0], [1, 0]], 8)),
+        ("513 documents", telling(2, &[[500, 499], [13, 0]], 4104)),
+        ("1 document in 32 bits", telling(2, &[[NONE, 0], [2, 0]], 8)),
+        ("513 frames", telling(513, &[[1, 0]; 513], 4104)),
+        ("one byte more", telling(1, &[[3, 1]], 25)),
+        ("one byte fewer", telling(1, &[[3, 1]], 23)),
+        ("one entry more", telling(1, &[[3, 1]], 32)),
+        ("no bodies", telling(1, &[[3, 1]], 0)),
+    ] {
+        c.same(name, contents(&bytes), no(3));
+    }
+    let mut window = in_turn();
+    go(&mut window, -1).unwrap();
+    c.same("the sums over two windows", contents(&saved(&window)), Ok((3, 4)));
 }
 
 /// One record for each clause, in which that clause alone fails.

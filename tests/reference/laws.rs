@@ -409,6 +409,8 @@ fn sums(record: &[u32]) {
     let standing: Vec<(u32, u32, u32)> = roots(record).into_iter().map(|root| position(record, root).unwrap()).collect();
     let sum = |number: fn(&(u32, u32, u32)) -> u32| standing.iter().map(number).sum::<u32>();
     assert_eq!((sum(|at| at.0), sum(|at| at.1)), (taken, steps.len() as u32), "positions and steps over the whole table");
+    let told = (contents(&bytes_of(record)), contents_old(&old_bytes_of(record)));
+    assert_eq!(told, (Ok((taken, steps.len() as u32)), Ok((taken, steps.len() as u32))), "and so the contents of both forms tell");
 }
 
 /// "Demand 2's round trip is about the new form." The old form holds the records of one window whose numbers rise and no others, and no bytes are

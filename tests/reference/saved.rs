@@ -58,6 +58,24 @@ pub fn old_record_of(bytes: &[u8]) -> Option<Vec<u32>> {
     (is_sound(&record) && rises(&record) && one_root_frame(&record) && old_bytes_of(&record) == bytes).then_some(record)
 }
 
+/// What the contents alone tell, where an entry of the form's bodies has so many bytes: "position is the sum of the shown places, steps the sum of m - 1". Nothing "when there
+/// is no frame, the contents don't fit, a shown place is not below its m, the documents exceed 512, or the length is not the form's" (document 02, L8).
+pub fn contents_of(bytes: &[u8], entry: u64) -> Option<(u32, u32)> {
+    let number = |at: usize| bytes.get(at..at + 4).map(|four| u32::from_be_bytes(four.try_into().unwrap()) as u64);
+    let (length, frames) = (bytes.len() as u64, number(0)?);
+    let contents = 12 + 16 * frames;
+    if frames == 0 || length < contents {
+        return None;
+    }
+    let line = |frame: u64| (number(20 + 16 * frame as usize).unwrap(), number(24 + 16 * frame as usize).unwrap());
+    let lines: Vec<(u64, u64)> = (0..frames).map(line).collect();
+    let documents: u64 = lines.iter().map(|(m, _)| m).sum();
+    if lines.iter().any(|(m, shown)| shown >= m) || documents > MOST_ROWS as u64 || length != contents + entry * documents {
+        return None;
+    }
+    Some((lines.iter().map(|(_, shown)| *shown as u32).sum(), lines.iter().map(|(m, _)| *m as u32 - 1).sum()))
+}
+
 /// What bytes tell: both next numbers, and of each document its row and its body entry.
 struct Told {
     next_document: u32,

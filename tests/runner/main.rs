@@ -1,10 +1,12 @@
 //! runner calls [--seed S] [--calls N] DRIVER [ARGUMENT..]: random calls through the driver, compared with the reference.
 //! runner changes DRIVER [ARGUMENT..]: saved bytes of small records with every change of one byte, given to both loading calls.
+//! runner listed [--seed S] [--calls N] DRIVER [ARGUMENT..]: so many saved windows, whose contents must tell what loading them does.
 //! runner scripts [--seed S] [--scripts N] COMMAND [ARGUMENT..]: random scripts through a script program, compared likewise.
 //! runner products [--seed S] [--calls N]: the reference's products of doubles, compared with the machine's own.
 mod changes;
 mod compare;
 mod doubles;
+mod listed;
 mod maker;
 mod random;
 mod records;
@@ -17,6 +19,7 @@ mod windows;
 
 const USAGE: &str = "usage: runner calls [--seed S] [--calls N] DRIVER [ARGUMENT..]
        runner changes DRIVER [ARGUMENT..]
+       runner listed [--seed S] [--calls N] DRIVER [ARGUMENT..]
        runner scripts [--seed S] [--scripts N] COMMAND [ARGUMENT..]
        runner products [--seed S] [--calls N]";
 
@@ -47,6 +50,7 @@ fn main() {
     let passed = match mode.as_str() {
         "calls" => compare::run(seed, count.unwrap_or(300_000), &arguments),
         "changes" => changes::run(&arguments),
+        "listed" => listed::run(seed, count.unwrap_or(600), &arguments),
         "scripts" => scripts::run(seed, count.unwrap_or(60), &arguments),
         "products" => doubles::run(seed, count.unwrap_or(5_000_000)),
         _ => fail("no such mode"),

@@ -139,6 +139,7 @@ impl Maker {
                 request.places = stores::store(random, &request.words, request.number);
                 request.given = stores::given(random, &request.places, request.number);
             }
+            Call::Contents | Call::ContentsOld => request.bytes = self.told_bytes(Form::of(call)),
             Call::Load | Call::LoadOld => {
                 request.bytes = self.load_bytes(Form::of(call));
                 let random = &mut self.random;
@@ -151,6 +152,15 @@ impl Maker {
             }
         }
         request
+    }
+
+    /// Bytes for the call that reads the contents of a form: as for loading, or no frame, or contents that no record has.
+    fn told_bytes(&mut self, own: Form) -> Vec<u8> {
+        match self.random.below(20) {
+            0 => saves::to_bytes(&[0, self.random.word(), self.random.word()]),
+            1..=4 => saves::contents(&mut self.random, own),
+            _ => self.load_bytes(own),
+        }
     }
 
     /// Bytes for the loading call of a form, now and then of the other one.
@@ -290,7 +300,7 @@ fn plain_calls(random: &mut Random) -> Vec<Request> {
                 request.first = random.words(8);
                 request.second = random.words(8);
                 request.places = stores::store(random, &request.words, 0);
-                request.bytes = if call.loads() { saves::long_frame(random, Form::of(call), 1 + length / 8) } else { random.bytes(40) };
+                request.bytes = if call.loads() || call.tells() { saves::long_frame(random, Form::of(call), 1 + length / 8) } else { random.bytes(40) };
                 requests.push(request);
             }
         }

@@ -23,6 +23,8 @@ pub enum Call {
     Save,
     Load,
     LoadOld,
+    Contents,
+    ContentsOld,
     PlaceItself,
     PlaceAt,
     Place,
@@ -30,9 +32,9 @@ pub enum Call {
 }
 
 /// In the order of the driver's numbers.
-pub const CALLS: [Call; 19] = [
+pub const CALLS: [Call; 21] = [
     Call::Fresh, Call::Open, Call::Navigate, Call::Traverse, Call::Drop, Call::Replace, Call::Tab, Call::Position, Call::Visible, Call::Lists, Call::Stretch,
-    Call::Outline, Call::Save, Call::Load, Call::LoadOld, Call::PlaceItself, Call::PlaceAt, Call::Place, Call::PlaceAtZoom,
+    Call::Outline, Call::Save, Call::Load, Call::LoadOld, Call::Contents, Call::ContentsOld, Call::PlaceItself, Call::PlaceAt, Call::Place, Call::PlaceAtZoom,
 ];
 
 impl Call {
@@ -60,9 +62,14 @@ impl Call {
         matches!(self, Call::Load | Call::LoadOld)
     }
 
+    /// Whether it is lent bytes alone, and reads their contents.
+    pub fn tells(self) -> bool {
+        matches!(self, Call::Contents | Call::ContentsOld)
+    }
+
     /// Whether it begins with the test of a record.
     pub fn examines(self) -> bool {
-        !self.loads() && !matches!(self, Call::Fresh | Call::Stretch)
+        !self.loads() && !self.tells() && !matches!(self, Call::Fresh | Call::Stretch)
     }
 }
 
@@ -171,6 +178,8 @@ impl Request {
             Call::Save => vec![calls::save(words, bytes)?],
             Call::Load => vec![calls::load(words, bytes)?],
             Call::LoadOld => vec![calls::load_old(words, bytes)?],
+            Call::Contents => calls::contents(bytes).map(|(position, steps)| vec![position, steps])?,
+            Call::ContentsOld => calls::contents_old(bytes).map(|(position, steps)| vec![position, steps])?,
             Call::PlaceItself => places::place_itself(words, places, self.number).map(|()| vec![])?,
             Call::PlaceAt => places::place_at(words, places, self.number, given).map(|()| vec![])?,
             Call::Place => vec![told(places::place(words, places, self.number)?, doubles)],

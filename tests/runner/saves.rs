@@ -1,4 +1,4 @@
-//! Saved bytes for the loading calls, of both forms: as Save writes them or wrote them, damaged, or made up; and why bytes are not taken.
+//! Saved bytes for the loading calls and those that read the contents, of both forms: as Save writes them or wrote them, damaged, or made up; and why bytes are not taken.
 use crate::random::Random;
 use crate::request::{Call, Request};
 use reference::record::{write, Row, MOST_ROWS, NONE};
@@ -14,9 +14,9 @@ pub enum Form {
 }
 
 impl Form {
-    /// The form that a loading call takes.
+    /// The form that a call takes.
     pub fn of(call: Call) -> Form {
-        if call == Call::LoadOld { Form::Old } else { Form::New }
+        if matches!(call, Call::LoadOld | Call::ContentsOld) { Form::Old } else { Form::New }
     }
 
     pub fn other(self) -> Form {
@@ -56,6 +56,19 @@ pub fn long_frame(random: &mut Random, form: Form, documents: usize) -> Vec<u8> 
         numbers.extend(&[document, place][..form.width()]);
     }
     to_bytes(&numbers)
+}
+
+/// A few frames or some hundreds, each with some documents, about 512 in all or few; then bodies of the form's length that hold anything.
+pub fn contents(random: &mut Random, form: Form) -> Vec<u8> {
+    let frames = random.pick(&[1, 2, 3, 5, 40, 511, 512, 513]);
+    let most = random.pick(&[1, 2, 512 / frames + 1, 1024 / frames + 1]);
+    let sizes: Vec<u32> = (0..frames).map(|_| 1 + random.below(most) as u32).collect();
+    let lines: Vec<[u32; 2]> = sizes.into_iter().map(|m| [m, random.below(m as usize) as u32]).collect();
+    let rows: u32 = lines.iter().map(|[m, _]| m).sum();
+    let mut numbers = vec![frames as u32, random.word(), random.word()];
+    lines.iter().for_each(|[m, shown]| numbers.extend([random.word(), random.pick(&[NONE, 0, 1]), *m, *shown]));
+    let bodies = 4 * form.width() * rows as usize;
+    [to_bytes(&numbers), random.bytes(bodies)].concat()
 }
 
 pub fn to_bytes(numbers: &[u32]) -> Vec<u8> {
@@ -166,11 +179,16 @@ const LACKS: [&str; 6] = ["the other form", "another length", "frames that do no
 const NEW_LACKS: [&str; 3] = ["a place twice", "a place beyond", "places that fall"];
 const OLD_LACKS: [&str; 3] = ["a document twice", "documents that fall", "several root frames"];
 
+/// Why the contents must have been refused, each alone; and that they were told of bytes that loading refuses, and of several windows.
+const NOT_TOLD: [&str; 6] = ["the other form", "another length", "no frame", "contents that don't fit", "none shown", "more than 512 rows"];
+const TOLD: [&str; 3] = ["bytes that loading takes", "bytes that loading refuses", "several root frames"];
+
 /// The ways that must occur of a loading call: each of those, and a record whose numbers do not rise.
 pub fn ways_of(call: Call) -> Vec<&'static str> {
     match call {
         Call::Load => [LACKS.as_slice(), &NEW_LACKS, &[UNORDERED]].concat(),
         Call::LoadOld => [LACKS.as_slice(), &OLD_LACKS].concat(),
+        Call::Contents | Call::ContentsOld => [NOT_TOLD.as_slice(), &TOLD].concat(),
         _ => vec![],
     }
 }
@@ -178,10 +196,12 @@ pub fn ways_of(call: Call) -> Vec<&'static str> {
 /// A record whose numbers do not rise, which S2 allows since document 02's L7.
 pub const UNORDERED: &str = "numbers that do not rise";
 
-/// The way in which a loading call came to this answer.
+/// The way in which a call came to this answer.
 pub fn way(request: &Request, refusal: u32) -> Option<&'static str> {
     let form = Form::of(request.call);
     match refusal {
+        0 if request.call.tells() => Some(why_told(form, &request.bytes)),
+        3 if request.call.tells() => why_not_told(form, &request.bytes),
         0 => form.record(&request.bytes).filter(|record| !rises(record)).map(|_| UNORDERED),
         3 => why_not(form, &request.bytes),
         _ => None,
@@ -217,6 +237,40 @@ fn why_not(form: Form, bytes: &[u8]) -> Option<&'static str> {
         (Some(reason), None) => Some(reason),
         _ => None,
     }
+}
+
+/// Whether loading takes bytes of which the contents are told, and whether those tell of several root frames.
+fn why_told(form: Form, bytes: &[u8]) -> &'static str {
+    let numbers = to_numbers(bytes);
+    let roots = (0..numbers[0] as usize).filter(|frame| numbers[4 + 4 * frame] == NONE).count();
+    match form.record(bytes) {
+        _ if roots > 1 => TOLD[2],
+        Some(_) => TOLD[0],
+        None => TOLD[1],
+    }
+}
+
+/// The one reason why the contents are refused; none where there are several.
+fn why_not_told(form: Form, bytes: &[u8]) -> Option<&'static str> {
+    if form.other().record(bytes).is_some() {
+        return Some("the other form");
+    }
+    let numbers = to_numbers(bytes);
+    let frames = numbers.first().copied().unwrap_or(0) as u64;
+    let contents = 12 + 16 * frames;
+    if contents > bytes.len() as u64 {
+        return (frames > 0).then_some("contents that don't fit");
+    }
+    let lines = || numbers[3..3 + 4 * frames as usize].chunks(4);
+    let rows: u64 = lines().map(|line| line[2] as u64).sum();
+    let reasons = [
+        ("no frame", frames == 0),
+        ("none shown", lines().any(|line| line[3] >= line[2])),
+        ("more than 512 rows", rows > MOST_ROWS as u64),
+        ("another length", bytes.len() as u64 != contents + 4 * form.width() as u64 * rows),
+    ];
+    let mut held = reasons.iter().filter(|(_, holds)| *holds).map(|(reason, _)| *reason);
+    held.next().filter(|_| held.next().is_none())
 }
 
 /// The one reason why the record that bytes tell is not taken: it is unsound, or in the old form it has several root frames.

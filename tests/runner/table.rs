@@ -17,9 +17,9 @@ pub fn allowed(call: Call, refusal: u32) -> bool {
     use Call::*;
     match refusal {
         0 => true,
-        1 => call != Stretch,
+        1 => call != Stretch && !call.tells(),
         2 => call.examines(),
-        3 => call.loads(),
+        3 => call.loads() || call.tells(),
         4 => matches!(call, Open | Navigate | Drop | Replace | Visible) || call.has_store(),
         5 => matches!(call, Open | Navigate | Drop | Replace),
         6 => matches!(call, Traverse | Stretch),
@@ -78,7 +78,7 @@ fn ways(request: &Request, refusal: u32) -> Vec<&'static str> {
     if call.has_store() {
         ways.extend(stores::ways(request, refusal));
     }
-    if call.loads() {
+    if call.loads() || call.tells() {
         ways.extend(saves::way(request, refusal));
     }
     if call == Call::Replace && refusal == 0 {

@@ -9,7 +9,7 @@ use Rattle.changes.specs.declared.ChangeRow.{ChangeRow}
 use Rattle.changes.specs.Changes.{plain}
 use Rattle.changes.proofs.Filling.{plain-same}
 use Rattle.determined.specs.Determined.{OneResult, OnePlace, Determined}
-use Rattle.determined.proofs.Injective.{fresh-injective, opened-injective, navigated-injective, dropped-injective, traversed-injective, standing-injective, sight-injective, listed-injective, stretch-injective, outlined-injective, saving-injective, loading-injective, setting-injective, placed-same, reply-injective, command-injective, replaced-injective}
+use Rattle.determined.proofs.Injective.{fresh-injective, opened-injective, navigated-injective, dropped-injective, traversed-injective, standing-injective, sight-injective, listed-injective, stretch-injective, outlined-injective, saving-injective, loading-injective, told-injective, setting-injective, placed-same, reply-injective, command-injective, replaced-injective}
 use Rattle.determined.proofs.Shifts.{shift-alike}
 
 -- No two results of a call have one answer: then its outcome tells the result, with the lent runs.
@@ -43,6 +43,8 @@ determined =
       save = λ words room. alike saving-injective (Call.Save words room);
       load = λ words bytes. alike loading-injective (Call.Load words bytes);
       load-old = λ words bytes. alike loading-injective (Call.LoadOld words bytes);
+      contents = λ bytes. alike told-injective (Call.Contents bytes);
+      contents-old = λ bytes. alike told-injective (Call.ContentsOld bytes);
       set-place = λ words places d place. alike setting-injective (Call.SetPlace words places d place);
       place = λ words places d. place-alike (Call.AskPlace words places d);
       place-at-zoom = λ words places d zoom. place-alike (Call.AskAtZoom words places d zoom);

@@ -35,6 +35,8 @@ use Rattle.saved.specs.declared.Saving.the-variants as Savings
 use Rattle.saved.specs.Answers.{savingIs}
 use Rattle.told.specs.declared.Loading.the-variants as Loadings
 use Rattle.told.specs.Answers.{loadingIs}
+use Rattle.contents.specs.declared.Told.the-variants as Tolds
+use Rattle.contents.specs.Answers.{toldIs}
 use Rattle.points.specs.declared.Place.the-variants.{Itself, At}
 use Rattle.places.specs.declared.Placed.{Placed}
 use Rattle.places.specs.declared.Placed.the-variants as Placeds
@@ -144,6 +146,11 @@ pub loading-injective : Injective loadingIs
 loading-injective =
     told-back loadingIs (λ v. Loadings.Rows (getD v 0 0)) Loadings.Refused
     λ r. elim r [ Loadings.Rows n ↦ refl | Loadings.Refused k ↦ ap Loadings.Refused (refusal-back k) ]
+
+pub told-injective : Injective toldIs
+told-injective =
+    told-back toldIs (λ v. Tolds.At (getD v 0 0) (getD v 1 0)) Tolds.Refused
+    λ r. elim r [ Tolds.At p s ↦ refl | Tolds.Refused k ↦ ap Tolds.Refused (refusal-back k) ]
 
 pub setting-injective : Injective settingIs
 setting-injective = told-back settingIs (λ v. Settings.Done) Settings.Refused λ r. elim r [ Settings.Done ↦ refl | Settings.Refused k ↦ ap Settings.Refused (refusal-back k) ]

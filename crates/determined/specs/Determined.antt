@@ -23,6 +23,7 @@ use Rattle.asks.specs.Answers.{sightIs, stretchIs}
 use Rattle.outlines.specs.Answers.{outlinedIs}
 use Rattle.saved.specs.Answers.{savingIs}
 use Rattle.told.specs.Answers.{loadingIs}
+use Rattle.contents.specs.Answers.{toldIs}
 use Rattle.points.specs.Points.{placeIs}
 use Rattle.places.specs.declared.Placed.{Placed}
 use Rattle.places.specs.declared.Placed.the-variants.{Stands, Refused}
@@ -67,6 +68,8 @@ pub record Determined : Type 0 where
   pub save : (words room : List ℕ) → OneResult savingIs (Call.Save words room)
   pub load : (words bytes : List ℕ) → OneResult loadingIs (Call.Load words bytes)
   pub load-old : (words bytes : List ℕ) → OneResult loadingIs (Call.LoadOld words bytes)
+  pub contents : (bytes : List ℕ) → OneResult toldIs (Call.Contents bytes)
+  pub contents-old : (bytes : List ℕ) → OneResult toldIs (Call.ContentsOld bytes)
   pub set-place : (words places : List ℕ) (d : ℕ) (place : Place) → OneResult settingIs (Call.SetPlace words places d place)
   pub place : (words places : List ℕ) (d : ℕ) → OnePlace (Call.AskPlace words places d)
   pub place-at-zoom : (words places : List ℕ) (d : ℕ) (zoom : Float) → OnePlace (Call.AskAtZoom words places d zoom)

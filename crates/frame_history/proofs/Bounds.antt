@@ -18,8 +18,9 @@ use Rattle.rules.specs.Moves.{walked, frames, changeRow, changes, shownDoc}
 use Rattle.rules.specs.Words.{capacity, tableOf, rowsOf}
 use Rattle.rules.specs.Asks.{takenList, upcomingList, outlineOf}
 use Rattle.rules.specs.Saved.{saved}
+use Rattle.rules.specs.Contents.{positionIn, stepsIn, notContents}
 use Rattle.rules.specs.Calls.{Call, Answer, refusals, accepted, outcome, NoneGiven, windowIn}
-use Rattle.laws.specs.Loading.{IsLoad}
+use Rattle.laws.specs.Loading.{IsLoad, reading}
 use Rattle.laws.proofs.Tests.{test, some-in, some-out, count-le, count-most, length-gather, gather-from}
 use Rattle.laws.proofs.Calls.{by-ladder, outcome-accepted, outcome-refused}
 use Rattle.laws.proofs.Central.{position-steps}
@@ -27,6 +28,7 @@ use Rattle.laws.proofs.Reflect.{sound-is}
 use Rattle.laws.proofs.Standing.{steps-most}
 use Rattle.laws.proofs.Trips.{frames-few}
 use Rattle.laws.proofs.Loads.{saved-length}
+use Rattle.laws.proofs.Contents.{fits-out, steps-are, position-most}
 use Rattle.laws.proofs.Outlines.{outline-bound}
 use Rattle.windows.proofs.Window.{window-length}
 use Rattle.extracts.proofs.Windowed.{window-table}
@@ -125,6 +127,22 @@ load-small {c} {words} {taken} {t} is a runs n e g =
     let x : length (t .rows) ≡ n = ap (λ o. value 0 (o .answer)) (sym (is .accepts)) ∙ ap (value 0) v in
     let m : length (t .rows) ≤ capacity words = ltb-false _ _ (h .1 .1 .0) in
     omega arith
+
+-- What the contents tell, in either form.
+pub contents-small : (width : ℕ) (bytes : List ℕ) (a : Answer) (runs : List (List ℕ)) (p s : ℕ) → reading width bytes ≡ record { answer = a; lent = runs } → a ≡ Answer.gives (p ∷ s ∷ []) → (p ≤ 512) × (s ≤ 512)
+unfolding reading
+contents-small width bytes a runs p s e g =
+    test (notContents width bytes)
+    (λ t.
+    let r : Answer.refuses 3 [] ≡ Answer.gives (p ∷ s ∷ []) = ap (λ o. o .answer) (rw t at e) ∙ g in
+    let z : _≡_ {A = ℕ} 0 1 = cc in
+    absurd (omega arith))
+    (λ o.
+    let v : Answer.gives (positionIn bytes ∷ stepsIn bytes ∷ []) ≡ Answer.gives (p ∷ s ∷ []) = ap (λ o. o .answer) (rw o at e) ∙ g in
+    let x : positionIn bytes ≡ p = ap (value 0) v in
+    let y : stepsIn bytes ≡ s = ap (value 1) v in
+    let f = fits-out width bytes o in
+    (omega (arith, f .few, position-most width bytes f), omega (arith, f .few, steps-are width bytes f)))
 
 -- Four words a change row, and no more rows than frames.
 change-few : (before after : List Row) (f : ℕ) → length (changeRow before after f) ≤ 4

@@ -364,6 +364,42 @@ pub extern "C" fn frame_history_load_old(words: &mut [u32], bytes: &[u8], rows: 
     }
 }
 
+// Whether Back and Forward would work in a saved window, by the contents of its bytes: its position and its steps.
+#[no_mangle]
+pub extern "C" fn frame_history_contents(bytes: &[u8], position: &mut u32, steps: &mut u32) -> u32
+    ensures { λ r. ⌜ face (outcome (Call.Contents (now (bytes .entry)))) (now (position .entry) ∷ now (steps .entry) ∷ [])
+        ≡ record { number = r; outs = now (position .exit) ∷ now (steps .exit) ∷ []; lent = [] } ⌝ }
+{
+    match contents::contents(bytes) {
+        contents::Told::At(back, all) => {
+            *position = back as u32;
+            *steps = all as u32;
+            0
+        }
+        contents::Told::Refused(r) => base::refusal_number(r),
+    }
+}
+
+// The same of bytes of the old form.
+#[no_mangle]
+pub extern "C" fn frame_history_contents_old(
+    bytes: &[u8],
+    position: &mut u32,
+    steps: &mut u32,
+) -> u32
+    ensures { λ r. ⌜ face (outcome (Call.ContentsOld (now (bytes .entry)))) (now (position .entry) ∷ now (steps .entry) ∷ [])
+        ≡ record { number = r; outs = now (position .exit) ∷ now (steps .exit) ∷ []; lent = [] } ⌝ }
+{
+    match contents::contents_old(bytes) {
+        contents::Told::At(back, all) => {
+            *position = back as u32;
+            *steps = all as u32;
+            0
+        }
+        contents::Told::Refused(r) => base::refusal_number(r),
+    }
+}
+
 // What a host sees of a setting: 0, or the refusal's number.
 fn told_setting(answer: Setting) -> u32
     ensures { λ r. ⌜ ToldSetting answer r ⌝ }

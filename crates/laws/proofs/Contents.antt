@@ -17,7 +17,7 @@ use Rattle.rules.specs.Calls.{_leaving_}
 use Rattle.laws.specs.Loading.{reading, Fits}
 use Rattle.laws.proofs.Tests.{off, clash, same-tests, or-none, some-in, some-out, count-yes, count-flat, count-le, count-same, count-split, one-out}
 use Rattle.laws.proofs.Frames.{reach-in, reach-out}
-use Rattle.laws.proofs.Pieces.{sum-same, sum-less, sum-classes, sum-rising}
+use Rattle.laws.proofs.Pieces.{sum-same, sum-less, sum-under, sum-classes, sum-rising}
 use Rattle.laws.proofs.Numbers.{Form, length-docsOf, frameNo, documents, read-count, read-documents, read-shown}
 use Rattle.laws.proofs.Trips.{no-documents, first-one, all-documents, some-documents, steps-frames, frames-some, told-total, shown-row, shown-place, row-of, shown-below}
 
@@ -48,6 +48,11 @@ module _ (width : ℕ) (bytes : List ℕ) where
   pub steps-are : Fits width bytes → stepsIn bytes + numberAt bytes 0 ≡ entriesIn bytes
   unfolding stepsIn
   steps-are f = sum-less (documentsIn bytes) (numberAt bytes 0) (λ j l. omega (arith, f .shown j l))
+
+  -- The position is less still.
+  pub position-most : Fits width bytes → positionIn bytes + numberAt bytes 0 ≤ entriesIn bytes
+  unfolding positionIn
+  position-most f = sum-under (shownIn bytes) (documentsIn bytes) (numberAt bytes 0) (f .shown)
 
 -- A TABLE
 

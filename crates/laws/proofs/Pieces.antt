@@ -48,6 +48,12 @@ module _ (f : ℕ → ℕ) where
   sum-zeros zero h = refl
   sum-zeros (suc n) h = omega (arith, h n (omega arith), sum-zeros n (λ k l. h k (omega arith)))
 
+-- Each term is below another's.
+pub sum-under : (f g : ℕ → ℕ) (n : ℕ) → ((k : ℕ) → k < n → f k < g k) → sum f n + n ≤ sum g n
+unfolding sum
+sum-under f g zero h = omega arith
+sum-under f g (suc n) h = omega (arith, h n (omega arith), sum-under f g n (λ k l. h k (omega arith)))
+
 -- Terms of 1 where p passes, of 0 where it does not.
 pub sum-ones : (f : ℕ → ℕ) (p : ℕ → Bool) (n : ℕ) → ((k : ℕ) → So (p k) → f k ≡ 1) → ((k : ℕ) → p k ≡ false → f k ≡ 0) → sum f n ≡ count p n
 unfolding sum
