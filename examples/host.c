@@ -8,6 +8,8 @@
    At another desk a customer card pops up beside the main window, in the same table. Each window goes its own way and has a Back of its own: going
    back in one leaves the documents of the other where they are, and what is ahead in one stays while the other goes on.
 
+   A list of saved windows greys Back and Forward by the contents of the saved bytes, before any of them is loaded.
+
    Link with libframe_history.a, which `rt staticlib frame_history` writes. */
 #include "frame_history.h"
 #include <stdio.h>
@@ -106,11 +108,18 @@ static void kept(void) {
   printf("\n");
 }
 
-/* Saves a record and loads it again: 0 where the words are the same. */
+/* A line of the list of saved windows, by position and steps. */
+static void listed(uint32_t position, uint32_t steps) {
+  printf("  in the list of windows: Back %s, Forward %s\n", position > 0 ? "works" : "is grey", position < steps ? "works" : "is grey");
+}
+
+/* Saves a record, lists it and loads it again: 0 where the words are the same. */
 static int exchange(const uint32_t *words) {
   uint8_t bytes[BYTES];
-  uint32_t again[WORDS], length, rows, same = 0;
+  uint32_t again[WORDS], length, rows, position, steps, same = 0;
   if (refused("save", frame_history_save(words, WORDS, bytes, BYTES, &length))) return 1;
+  if (refused("contents", frame_history_contents(bytes, length, &position, &steps))) return 1;
+  listed(position, steps);
   if (refused("load", frame_history_load(again, WORDS, bytes, length, &rows))) return 1;
   for (int i = 0; i < WORDS; i++) same += words[i] == again[i];
   printf("saved: %u bytes; loaded: %u rows, %s\n", (unsigned)length, (unsigned)rows, same == WORDS ? "the same record" : "ANOTHER RECORD");
@@ -125,11 +134,13 @@ static const uint8_t old[] = {
   0, 0, 0, 0, 0, 0, 0, 1, 0, 0, 0, 2                  /* their numbers, with no places */
 };
 
-/* Loads it by the old form's own call, and saves it in the new one. */
+/* Lists it and loads it by the old form's own calls, and saves it in the new one. */
 static int load_earlier(void) {
-  uint32_t words[WORDS], rows = 7, number = frame_history_load(words, WORDS, old, sizeof old, &rows);
+  uint32_t words[WORDS], position, steps, rows = 7, number = frame_history_load(words, WORDS, old, sizeof old, &rows);
   printf("an earlier history of %u bytes: load refuses it, number %u\n", (unsigned)sizeof old, (unsigned)number);
   if (number != FRAME_HISTORY_NOT_SAVED || rows != 7) return 1;
+  if (refused("contents_old", frame_history_contents_old(old, sizeof old, &position, &steps))) return 1;
+  listed(position, steps);
   if (refused("load_old", frame_history_load_old(words, WORDS, old, sizeof old, &rows))) return 1;
   printf("load_old takes it: %u rows\n", (unsigned)rows);
   stands(words, MAIN);

@@ -49,7 +49,8 @@ enum {
   FRAME_HISTORY_NO_WINDOW = 13,   /* no root frame has that number */
   FRAME_HISTORY_BAD_PLACES = 15,  /* the entries of the store that are not free hold a document twice, a kind above 1, or a point
                                      that is NaN or infinite */
-  FRAME_HISTORY_NOT_SAVED = 3,    /* the bytes are not bytes that frame_history_save writes, or for load_old, that it wrote before */
+  FRAME_HISTORY_NOT_SAVED = 3,    /* the bytes are not bytes that frame_history_save writes, or for load_old, that it wrote before; for contents
+                                     and contents_old, their contents and length are not such */
   FRAME_HISTORY_ABSENT = 4,       /* the document, or for drop the frame, is not in the record */
   FRAME_HISTORY_ROOT_FRAME = 10,  /* a root frame cannot be taken out */
   FRAME_HISTORY_HIDDEN = 5,       /* the document, or for drop the one that holds the frame, is there, but not visible */
@@ -199,6 +200,20 @@ uint32_t frame_history_load(uint32_t *words, size_t n, const uint8_t *bytes, siz
    Lent to write: the record. Lent to read: the bytes. Out: how many rows the record has; kept on refusal.
    Refused: 1, 3, 7. */
 uint32_t frame_history_load_old(uint32_t *words, size_t n, const uint8_t *bytes, size_t bytes_n, uint32_t *rows);
+
+/* Tells from the contents of saved bytes alone, without reading the bodies, how far the saved window could go: Back works where `position` is above 0, Forward where it is below
+   `steps`. Of several windows in one table both are the sums over all. On bytes that frame_history_load accepts they are the position and the steps of the record that it
+   fills; other bytes with such contents are answered too, so an answer does not say that the bytes can be loaded. No byte after the contents counts but for
+   `bytes_n`, which is the saved length.
+   Lent to read: the bytes. Out: position and steps; both kept on refusal.
+   Refused: 3 (there is no frame, the bytes do not hold the contents, a frame's shown place is not below the count of its documents, there are more than 512 documents, or the
+   length is not 12 + 16F + 8n). */
+uint32_t frame_history_contents(const uint8_t *bytes, size_t bytes_n, uint32_t *position, uint32_t *steps);
+
+/* The same of bytes of the old form, whose length is 12 + 16F + 4n, and of what frame_history_load_old accepts.
+   Lent to read: the bytes. Out: position and steps; both kept on refusal.
+   Refused: 3. */
+uint32_t frame_history_contents_old(const uint8_t *bytes, size_t bytes_n, uint32_t *position, uint32_t *steps);
 
 /* SCROLL PLACES. For each document the host may keep either that the page places itself, or a point in CSS pixels. Places live in a store
    that the host lends beside the record; the record is only read by these calls, and no other call has the store.

@@ -127,6 +127,10 @@ pub fn check_every(name: &str, words: &[u32]) {
     let (answer, again) = both(name, Call::Load, &saved(words));
     assert!(answer == 0 && again.words == words, "{name}: what is saved is not loaded again");
     both(name, Call::LoadOld, &saved(words));
+    for (call, answer) in [(Call::Contents, 0), (Call::ContentsOld, 3)] {
+        assert_eq!(both(name, call, &saved(words)).0, answer, "{name}: the contents of the new form");
+        assert_eq!(both(name, call, &saved_before(words)).0, 3 - answer, "{name}: the contents of the old form");
+    }
 }
 
 /// Fails where the libraries differ on a table of several windows: on every call, on damaged words, and on bytes of the old form, which has one window.

@@ -110,6 +110,8 @@ pub fn cases(shape: Shape, rows: usize) -> Vec<Case> {
         case("outline", Call::Outline(root), &whole),
         case("save", Call::Save, &whole),
         Case { name: "load", call: Call::Load, lent: saved(&whole) },
+        Case { name: "contents", call: Call::Contents, lent: saved(&whole) },
+        Case { name: "contents old", call: Call::ContentsOld, lent: saved_before(&whole) },
         placed("place itself", Call::PlaceItself(last(&whole)), &whole),
         placed("place at", Call::PlaceAt(last(&whole)), &whole),
         placed("place", Call::Place(last(&whole)), &whole),

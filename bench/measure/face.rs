@@ -23,6 +23,8 @@ pub struct Face {
     pub save: unsafe extern "C" fn(Read, usize, *mut u8, usize, Out) -> u32,
     pub load: unsafe extern "C" fn(Words, usize, *const u8, usize, Out) -> u32,
     pub load_old: unsafe extern "C" fn(Words, usize, *const u8, usize, Out) -> u32,
+    pub contents: unsafe extern "C" fn(*const u8, usize, Out, Out) -> u32,
+    pub contents_old: unsafe extern "C" fn(*const u8, usize, Out, Out) -> u32,
     pub place_itself: unsafe extern "C" fn(Read, usize, *mut u64, usize, u32) -> u32,
     pub place_at: unsafe extern "C" fn(Read, usize, *mut u64, usize, u32, Point) -> u32,
     pub place: unsafe extern "C" fn(Read, usize, *const u64, usize, u32, Out, Real, Real) -> u32,
@@ -55,6 +57,8 @@ extern "C" {
     fn frame_history_save(words: Read, count: usize, bytes: *mut u8, bytes_count: usize, length: Out) -> u32;
     fn frame_history_load(words: Words, count: usize, bytes: *const u8, bytes_count: usize, rows: Out) -> u32;
     fn frame_history_load_old(words: Words, count: usize, bytes: *const u8, bytes_count: usize, rows: Out) -> u32;
+    fn frame_history_contents(bytes: *const u8, bytes_count: usize, position: Out, steps: Out) -> u32;
+    fn frame_history_contents_old(bytes: *const u8, bytes_count: usize, position: Out, steps: Out) -> u32;
     fn frame_history_place_itself(words: Read, count: usize, places: *mut u64, places_count: usize, document: u32) -> u32;
     fn frame_history_place_at(words: Read, count: usize, places: *mut u64, places_count: usize, document: u32, point: Point) -> u32;
     fn frame_history_place(words: Read, count: usize, places: *const u64, places_count: usize, document: u32, kind: Out, x: Real, y: Real) -> u32;
@@ -87,6 +91,8 @@ pub static OURS: Face = Face {
     save: frame_history_save,
     load: frame_history_load,
     load_old: frame_history_load_old,
+    contents: frame_history_contents,
+    contents_old: frame_history_contents_old,
     place_itself: frame_history_place_itself,
     place_at: frame_history_place_at,
     place: frame_history_place,
@@ -109,6 +115,8 @@ pub static TWIN: Face = Face {
     save: face::save,
     load: face::load,
     load_old: face::load_old,
+    contents: face::contents,
+    contents_old: face::contents_old,
     place_itself: face::place_itself,
     place_at: face::place_at,
     place: face::place,

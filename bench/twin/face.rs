@@ -125,6 +125,16 @@ pub unsafe extern "C" fn load_old(words: *mut u32, count: usize, bytes: *const u
     answer(old::load(lent_mut(words, count), lent(bytes, bytes_count)), |n| *rows = n as u32)
 }
 
+/// Position and steps of a saved form, by its contents.
+pub unsafe extern "C" fn contents(bytes: *const u8, bytes_count: usize, position: &mut u32, steps: &mut u32) -> u32 {
+    answer(saved::contents(lent(bytes, bytes_count), 8), |(p, s)| (*position, *steps) = (p as u32, s as u32))
+}
+
+/// The same of the old form.
+pub unsafe extern "C" fn contents_old(bytes: *const u8, bytes_count: usize, position: &mut u32, steps: &mut u32) -> u32 {
+    answer(saved::contents(lent(bytes, bytes_count), 4), |(p, s)| (*position, *steps) = (p as u32, s as u32))
+}
+
 /// A point in CSS pixels.
 #[repr(C)]
 #[derive(Clone, Copy)]
