@@ -1,4 +1,4 @@
--- What the customer buys, as theorems over the definitions of `rules`. The ends of the lines of thought: `p1-to-p12`, `drop-examples`, `replace-examples`, `place-examples`,
+-- What the customer buys, as theorems over the definitions of `rules`. The ends of the lines of thought: `p1-to-p12`, `drop-examples`, `replace-examples`, `place-examples`, `contents-examples`,
 -- `standing`, `past-spared`, `windows`, `demand1` and `smallest-first`, `undo-each-other`, `takes-old` and `demand2`, `contents-loaded` and `contents-blind`, `noted`, `demand3`, `without-drops`, `without-replacements` and `without-tabs`, `hides-rightly` and
 -- `refusal-five-carries`, `links-rightly`, `traverse-traverse`, `scrolls`, and of the readings that look right `back-does-not-restore`, `back-restores-visible`,
 -- `own-future-not-enough`, `visible-futures-not-enough`, `back-is-not-to-latest-past`, `back-is-not-from-latest-of-all`, `back-is-not-to-first`,
