@@ -1,7 +1,7 @@
 -- The contents summed up, frame after frame. Assumes nothing.
 use Prim.Native.Nat.{ℕ, _+_, _-_, _*_, _≤_, _<_}
 use mathlib.Core.Bool.{true, false, false≢true}
-use mathlib.Core.List.{List, [], _∷_}
+use mathlib.Core.List.{List}
 use mathlib.Core.Logic.{_≢_}
 use mathlib.Core.Path.{_≡_, refl, sym, ap, ap₂, subst, _∙_}
 use native.Mathlib.Nat.{le-antisymm}
@@ -10,7 +10,6 @@ use lib.ListN.{length}
 use Rattle.rules.specs.Below.{sum}
 use Rattle.rules.specs.Saved.{numberAt, documentsIn, shownIn, entriesIn}
 use Rattle.rules.specs.Contents.{positionIn, stepsIn, notContents}
-use Rattle.rules.specs.Calls.{Answer, _leaving_}
 use Rattle.laws.specs.Loading.{reading, Fits}
 use Rattle.laws.proofs.Tests.{test, by-lt}
 use Rattle.laws.proofs.Pieces.{sum-within}
@@ -19,7 +18,8 @@ use Rattle.told.specs.declared.Entry.{Entry}
 use Rattle.told.specs.Shapes.{TellsOf}
 use Rattle.told.proofs.Sizing.{sum-more, sum-none}
 use Rattle.contents.specs.declared.Sums.{Sums}
-use Rattle.contents.specs.Sums.{Summed, Right, Tallied}
+use Rattle.contents.specs.declared.Reading.{Reading}
+use Rattle.contents.specs.Sums.{Summed, Right, Tallied, Reads}
 
 module _ (bytes : List ℕ) where
   pub summed-none : Summed bytes 0 0 0
@@ -62,21 +62,21 @@ module _ (bytes : List ℕ) where
   -- THE ANSWER
 
   module _ (width : ℕ) where
-    pub told-wrong : (Fits width bytes → ⊥) → reading width bytes ≡ record { answer = Answer.refuses 3 []; lent = [] }
+    pub read-wrong : (r : Reading) → r .fits ≡ false → (Fits width bytes → ⊥) → Reads width bytes r
     unfolding reading
-    told-wrong h = test (notContents width bytes) (λ t. rw t refl) (λ f. absurd (h (fits-out width bytes f)))
+    read-wrong r f h = record { right = λ t. absurd (false≢true (sym f ∙ t)); wrong = λ g. test (notContents width bytes) (λ t. rw t refl) (λ o. absurd (h (fits-out width bytes o))) }
 
     module _ (s : Sums) (r : Right bytes s) where
       -- The documents are those of all frames.
       entries-are : s .rows ≡ entriesIn bytes
       entries-are = r .all .rows-are ∙ ap (sum (documentsIn bytes)) (r .frames-are)
 
-      pub told-long : length bytes ≢ 12 + 16 * s .frames + width * s .rows → Fits width bytes → ⊥
-      told-long h f = h (f .long ∙ ap₂ (λ n m. 12 + 16 * n + width * m) (sym (r .frames-are)) (sym entries-are))
+      pub not-long : length bytes ≢ 12 + 16 * s .frames + width * s .rows → Fits width bytes → ⊥
+      not-long h f = h (f .long ∙ ap₂ (λ n m. 12 + 16 * n + width * m) (sym (r .frames-are)) (sym entries-are))
 
-      pub told-right : length bytes ≡ 12 + 16 * s .frames + width * s .rows → reading width bytes ≡ (s .back ∷ (s .rows - s .frames) ∷ [] leaving [])
+      pub read-right : length bytes ≡ 12 + 16 * s .frames + width * s .rows → Reads width bytes (record { position = s .back; steps = s .rows - s .frames; fits = true })
       unfolding reading positionIn
-      told-right e =
+      read-right e =
           let fits : Fits width bytes = record {
             framed = omega (arith, r .some, r .frames-are);
             room = omega (arith, r .room, r .frames-are);
@@ -86,4 +86,4 @@ module _ (bytes : List ℕ) where
           } in
           let back : sum (shownIn bytes) (numberAt bytes 0) ≡ s .back = ap (sum (shownIn bytes)) (sym (r .frames-are)) ∙ sym (r .all .back-is) in
           let steps : stepsIn bytes ≡ s .rows - s .frames = omega (arith, steps-are width bytes fits, r .frames-are, entries-are) in
-          rw (fits-in width bytes fits, back, steps) refl
+          record { right = λ t. rw (fits-in width bytes fits, back, steps) refl; wrong = λ f. absurd (false≢true (sym f)) }

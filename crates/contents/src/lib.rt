@@ -9,9 +9,8 @@ ghost use Prim.Native.Nat.{_+_, _*_, _≤_};
 ghost use lib.ListN.{length};
 ghost use Rattle.rules.specs.Saved.{numberAt};
 ghost use Rattle.rules.specs.Calls.{Call, outcome};
-ghost use Rattle.laws.specs.Loading.{reading};
 ghost use Rattle.contents.specs.Answers.{toldIs};
-ghost use Rattle.contents.specs.Sums.{Tallied};
+ghost use Rattle.contents.specs.Sums.{Tallied, Reads};
 
 // The position of a saved window, and its steps; of several windows in one table, their sums.
 pub enum Told {
@@ -24,6 +23,13 @@ struct Sums {
     frames: usize,
     rows: usize,
     back: usize,
+    fits: bool,
+}
+
+// What the contents tell, if they and the length are right.
+struct Reading {
+    position: usize,
+    steps: usize,
     fits: bool,
 }
 
@@ -86,31 +92,54 @@ fn sum_up(bytes: &[u8]) -> Sums
     tally(bytes, frames)
 }
 
-// What the contents tell, where an entry of the bodies has so many bytes and these have the length of the form.
-fn tell(bytes: &[u8], width: usize) -> Told
+// What contents that are not right tell.
+fn no_reading() -> Reading
+    ensures { λ r. ⌜ r .fits ≡ false ⌝ }
+{
+    Reading {
+        position: 0,
+        steps: 0,
+        fits: false,
+    }
+}
+
+// What the contents tell, if they are right and the bytes have the length of the form, in which an entry of the bodies has so many.
+fn read(bytes: &[u8], width: usize) -> Reading
     requires { ⌜ width ≤ 8 ⌝ }
-    ensures { λ r. ⌜ reading width (now (bytes .entry)) ≡ record { answer = toldIs r; lent = [] } ⌝ }
+    ensures { λ r. ⌜ Reads width (now (bytes .entry)) r ⌝ }
 {
     let s = sum_up(bytes);
     if !s.fits {
-        return Told::Refused(Refusal::NotSaved);
+        return no_reading();
     }
     if bytes.len() != 12 + 16 * s.frames + width * s.rows {
-        return Told::Refused(Refusal::NotSaved);
+        return no_reading();
     }
-    Told::At(s.back, s.rows - s.frames)
+    Reading {
+        position: s.back,
+        steps: s.rows - s.frames,
+        fits: true,
+    }
 }
 
 // The position and the steps of what the bytes of a saved window tell, by their contents.
 pub fn contents(bytes: &[u8]) -> Told
     ensures { λ r. ⌜ outcome (Call.Contents (now (bytes .entry))) ≡ record { answer = toldIs r; lent = [] } ⌝ }
 {
-    tell(bytes, 8)
+    let r = read(bytes, 8);
+    if !r.fits {
+        return Told::Refused(Refusal::NotSaved);
+    }
+    Told::At(r.position, r.steps)
 }
 
 // The same of bytes of the old form.
 pub fn contents_old(bytes: &[u8]) -> Told
     ensures { λ r. ⌜ outcome (Call.ContentsOld (now (bytes .entry))) ≡ record { answer = toldIs r; lent = [] } ⌝ }
 {
-    tell(bytes, 4)
+    let r = read(bytes, 4);
+    if !r.fits {
+        return Told::Refused(Refusal::NotSaved);
+    }
+    Told::At(r.position, r.steps)
 }

@@ -1,6 +1,7 @@
 -- `contents::contents_old` meets its contract. Assumes nothing.
 use mathlib.Core.Path.{_∙_}
 use borrow.Author.Needs.{needs}
+use borrow.Author.Tests.{not-true, not-false}
 use denote.Ref.{now}
 use Rattle.laws.proofs.Calls.{contents-old-is}
 use Rattle.contents.proofs.contents_old.Statement.{statement}
@@ -10,4 +11,7 @@ pub contents-old-spec : {M : Type 1} → statement M
 contents-old-spec =
     tie.close (tie.spec
     (λ c κs. search needs)
-    (λ c. contents-old-is (now (c .before .before .args .bytes)) ∙ c .tell .ensures))
+    (λ c. let r = c .before .before in
+    contents-old-is (now (r .before .before .args .bytes)) ∙ r .read .ensures .wrong (not-true _ (c .if1 .taken)))
+    (λ c. let r = c .before .before in
+    contents-old-is (now (r .before .before .args .bytes)) ∙ r .read .ensures .right (not-false _ (c .if1 .left))))
