@@ -1,6 +1,6 @@
 // Contents: whether Back and Forward would work in a saved window, by the contents of its bytes alone, in either form.
 //
-// What bounds it: a turn for each frame, at most 512 of them, since each frame has a document and the turns end before the 513th. No byte after the contents is read.
+// What bounds it: a turn for each frame, and at most 513, since each frame has a document and the one that comes to more than 512 ends it. No byte after the contents is read.
 use base::Refusal;
 ghost use mathlib.Core.Path.{_≡_};
 ghost use mathlib.Core.Bool.{false};
