@@ -63,26 +63,39 @@ fn follows_shown(rows: &[Row], at: usize) -> bool {
     last_of(&rows[..at], rows[at][FRAME], NONE).is_some_and(|prior| rows[prior][SHOWN] == 1)
 }
 
-/// Whether a row is a shown step.
-fn is_shown_step(rows: &[Row], at: usize) -> bool {
-    rows[at][SHOWN] == 1 && last_of(&rows[..at], rows[at][FRAME], NONE).is_some()
+/// The frame number that no earlier one is above, with a row more.
+fn higher(high: u32, row: &Row) -> u32 {
+    high.max(row[FRAME])
+}
+
+/// Whether a shown step of a window stands at a place or later, where no earlier row has a frame number above `high`.
+fn step_from(rows: &[Row], from: usize, mut high: u32, window: &mut Window) -> bool {
+    for at in from..rows.len() {
+        if rows[at][SHOWN] == 1 && window.has(rows, at) && last_of(&rows[..at], rows[at][FRAME], high).is_some() {
+            return true;
+        }
+        high = higher(high, &rows[at]);
+    }
+    false
 }
 
 /// S7 within each window, and that no frame shows two rows, where the table is not in order as a whole: from the first upcoming step of a window, at `start`
 /// that of all, a look at the later rows of it. A row of the window last looked at needs no look.
 #[inline(never)]
 pub fn each_ordered(rows: &[Row], start: usize) -> bool {
+    let mut high = rows[..start].iter().fold(0, higher);
     let mut last: Option<Window> = None;
     for at in start..rows.len() {
-        if last.as_mut().is_some_and(|window| window.has(rows, at)) || !follows_shown(rows, at) {
-            continue;
+        let inside = last.as_mut().is_some_and(|window| window.has(rows, at));
+        if !inside && last_of(&rows[..at], rows[at][FRAME], high).is_some_and(|prior| rows[prior][SHOWN] == 1) {
+            let mut window = Window::above(rows, at);
+            window.within = rows[at][PARENT];
+            if step_from(rows, at, high, &mut window) {
+                return false;
+            }
+            last = Some(window);
         }
-        let mut window = Window::above(rows, at);
-        window.within = rows[at][PARENT];
-        if (at..rows.len()).any(|later| is_shown_step(rows, later) && window.has(rows, later)) {
-            return false;
-        }
-        last = Some(window);
+        high = higher(high, &rows[at]);
     }
     true
 }
@@ -147,14 +160,16 @@ pub fn position(words: &[u32], root: u32) -> Result<(usize, usize), Refusal> {
 fn tally(rows: &[Row], root: u32) -> Option<(usize, usize)> {
     rows.iter().find(|row| row[PARENT] == NONE && row[FRAME] == root)?;
     let mut window = Window::of(root);
-    let (mut taken, mut hidden) = (0, 0);
+    let (mut taken, mut hidden, mut high) = (0, 0, 0);
     for at in 0..rows.len() {
         if window.has(rows, at) {
-            if is_shown_step(rows, at) {
+            if rows[at][SHOWN] == 0 {
+                hidden += 1;
+            } else if last_of(&rows[..at], rows[at][FRAME], high).is_some() {
                 taken = hidden;
             }
-            hidden += (rows[at][SHOWN] == 0) as usize;
         }
+        high = higher(high, &rows[at]);
     }
     Some((taken, hidden))
 }
