@@ -1,7 +1,8 @@
 // The test of S1 to S8 on arbitrary words, in one pass over the rows, with no array and no recursion. The pass tells besides where the window stands, where there is one.
 //
 // S7 is each window's own. Where no shown step of the table comes after an upcoming one, no window has such a step, and the pass is all that is asked; this is so of every
-// sound record of one window. Else, and only where there are several windows, each shown step is compared with the upcoming ones before it whose root frame is its own.
+// sound record of one window. Else, and only where there are several windows, a walk goes on from the first upcoming step: for each window that has one, no later shown row
+// of it may be a step. A window is looked at once for each time that the rows change to it from another.
 //
 // What bounds it, for n rows: each row looks back for the row before it in its frame and stops there, and not at all where its frame number is above every earlier one;
 // a frame's first row looks back for its parent and stops there, and not at all where that is the parent found last. So at most two triangular scans (n * n / 2 row visits
