@@ -3,7 +3,7 @@ use Prim.Native.Nat.{ℕ, suc, _+_, _-_, _*_, _≤_, _<_, max}
 use mathlib.Core.Bool.{Bool, true, false, not, _&&_, _||_, So, cond, false≢true, and-eq-true-iff}
 use mathlib.Core.Logic.{⊎-elim}
 use mathlib.Core.List.{List}
-use mathlib.Core.Path.{_≡_, refl, sym, ap, ap₂, subst, _∙_}
+use mathlib.Core.Path.{_≡_, refl, sym, ap, subst, _∙_}
 use native.Mathlib.Numerals.{add-one}
 use native.Mathlib.Omega.{arith}
 use mir.Val.{boolByte}
@@ -193,14 +193,6 @@ module _ (rows : List Row) where
             let late = some-grows (comes rows) i (sym (r .late-is) ∙ t) in
             let stays = earliest-stays (comes rows) i late in
             (linked-so, subst (Passed rows (i + 1)) (sym d) (ahead (p .upcoming) (p .begun) late (r .upcoming-is t ∙ sym stays) (r .begun-is t ∙ ap (count opens) (sym stays))))
-
-        -- Then a hidden one changes nothing.
-        pub step-hidden : p .late ≡ true → s ≡ 0 → TellsTo rows (i + 1) (linked rows i) (Holds p)
-        step-hidden t z =
-            let with : Bool → Bool → ℕ → Pass =
-            λ l b n. record { late = l; broken = b; several = p .several; shown = n; frames = p .frames; high = p .high; known = p .known; upcoming = p .upcoming; begun = p .begun; last = p .last } in
-            let quiet-flag : p .broken ≡ (p .broken || not (eqb s 0)) = rw z (sym (or-false (p .broken))) in
-            step-late p t (ap (λ l. with l (p .broken) (p .shown)) t ∙ ap₂ (with true) quiet-flag (omega arith))
 
         -- It is the first one.
         pub step-turns : (at : RowPlace) (v : Bool) (q : Pass) → at .0 ≡ i → v ≡ isShown rows j → p .late ≡ false → v ≡ true → q ≡ lateOf s at (p .frames) p → TellsTo rows (i + 1) (linked rows i) (Holds q)

@@ -187,9 +187,6 @@ fn pass_step(words: &[u32], at: RowPlace, prior: RowPlace, p: Pass) -> Tested
     }
     let shown = reads::shown(words, at);
     if p.late {
-        if shown == 0 {
-            return Tested::Holds(p);
-        }
         return Tested::Holds(pass_late(shown, p.upcoming, p.begun, p));
     }
     if reads::is_shown(words, prior) {
