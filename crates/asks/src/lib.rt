@@ -1,4 +1,6 @@
 // The questions that name no window: visible, stretch; and what hides a document, for the calls that ask it.
+#![tactic(auto)]
+
 ghost use Rattle.std.specs.Prelude.{◌≡◌, [], ◌-◌, ◌/◌, ◌%◌, ◌<◌};
 ghost use Rattle.rules.specs.Steps.{is_nobody, climb_at, hider_at, visible_at};
 ghost use Rattle.rules.specs.Words.{rows_of};
@@ -13,7 +15,7 @@ use reads::{Found, NONE};
 use sound::Check;
 
 // Whether a document can be seen, and if not, who hides it; and how many parent links were followed to tell.
-#[derive(Drop)]
+#[derive(Clone, Copy)]
 pub enum Sight {
     Visible(u32),
     Hidden(DocNo, u32),
@@ -21,7 +23,7 @@ pub enum Sight {
 }
 
 // Who hides a document: the nearest document, itself first and then upwards, that is not shown.
-#[derive(Drop)]
+#[derive(Clone, Copy)]
 pub enum Hider {
     Nobody,
     Document(DocNo),
@@ -158,7 +160,7 @@ pub fn stretch<'a>(taken: &'a [u32], upcoming: &'a [u32], delta: i32) -> &'a [u3
 }
 
 // How many entries a stretch has.
-#[derive(Drop)]
+#[derive(Clone, Copy)]
 pub enum Stretched {
     Count(usize),
     Refused(Refusal),

@@ -1,23 +1,25 @@
 // The numbers that are kept apart, the ways to say no, and the magnitude of a signed amount.
+#![tactic(auto)]
+
 ghost use Rattle.std.specs.Prelude.{◌≡◌, nat_abs};
 ghost use Rattle.base.specs.Numbers.{number_of, carried_by, carried_is, Narrow};
 
 // The number of a document.
 #[repr(C)]
-#[derive(Drop)]
+#[derive(Clone, Copy)]
 pub struct DocNo(pub u32);
 
 // The number of a frame.
 #[repr(C)]
-#[derive(Drop)]
+#[derive(Clone, Copy)]
 pub struct FrameNo(pub u32);
 
 // The place of a row in the record, counted from 0.
-#[derive(Drop)]
+#[derive(Clone, Copy)]
 pub struct RowPlace(pub usize);
 
 // Why a call is refused, by the paper's table "Nine ways to say no" with what document 02 adds.
-#[derive(Drop)]
+#[derive(Clone, Copy)]
 pub enum Refusal {
     // record under 7 words
     ShortRecord,
@@ -72,7 +74,7 @@ pub fn refusal_number(refusal: Refusal) -> u32
 }
 
 // What a refusal carries.
-#[derive(Drop)]
+#[derive(Clone, Copy)]
 pub enum Carried {
     Nothing,
     Document(DocNo),

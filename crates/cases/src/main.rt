@@ -1,5 +1,7 @@
 // Document 01's P1 to P12, the cases of Drop, of who hides a document, of Replace and of two windows, run: every call's answer, and of the record at the end the position
 // and length of window 0 and the visible documents.
+#![tactic(auto)]
+
 use asks::Sight;
 use base::{Carried, DocNo, FrameNo, Refusal};
 use drops::Dropped;

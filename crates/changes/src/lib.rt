@@ -3,6 +3,8 @@
 //
 // Where there are several windows, the one that is named is taken out (`extracts`), once to go and once more for each change row, which is read there: no array is held where the rows
 // are lent.
+#![tactic(auto)]
+
 ghost use Rattle.std.proofs.Math.Bool.{So};
 ghost use Rattle.std.specs.Prelude.{[], ◌∷◌, ◌≡◌, ◌+◌, ◌<◌, length};
 ghost use mir.Val.{bool_byte};
@@ -20,7 +22,7 @@ use traverses::{Shifted, Traversed};
 
 // A change row: a frame, its document before and after, and 1 if the latter is visible then, else 0.
 #[repr(C)]
-#[derive(Drop)]
+#[derive(Clone, Copy)]
 pub struct ChangeRow {
     pub frame: FrameNo,
     pub before: DocNo,
@@ -30,7 +32,7 @@ pub struct ChangeRow {
 
 // The lowest frame with a row between the places that a window went between, these, and how many change rows that makes; its root frame, whether other windows
 // stand beside it, and the answer.
-#[derive(Drop)]
+#[derive(Clone, Copy)]
 struct Route {
     first: FrameNo,
     before: RowPlace,

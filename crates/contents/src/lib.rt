@@ -1,6 +1,8 @@
 // Contents: whether Back and Forward would work in a saved window, by the contents of its bytes alone, in either form.
 //
 // What bounds it: a turn for each frame, and at most 513, since each frame has a document and the one that comes to more than 512 ends it. No byte after the contents is read.
+#![tactic(auto)]
+
 ghost use Rattle.std.specs.Prelude.{◌≡◌, false, [], ◌+◌, ◌*◌, ◌≤◌, length};
 ghost use Rattle.rules.specs.Saved.{number_at};
 ghost use Rattle.rules.specs.Calls.{Call, outcome};
@@ -10,14 +12,14 @@ ghost use Rattle.contents.specs.Sums.{Tallied, Reads};
 use base::Refusal;
 
 // The position of a saved window, and its steps; of several windows in one table, their sums.
-#[derive(Drop)]
+#[derive(Clone, Copy)]
 pub enum Told {
     At(usize, usize),
     Refused(Refusal),
 }
 
 // How many frames and documents the contents tell of, and the sum of their shown places, if they are right.
-#[derive(Drop)]
+#[derive(Clone, Copy)]
 struct Sums {
     frames: usize,
     rows: usize,
@@ -26,7 +28,7 @@ struct Sums {
 }
 
 // What the contents tell, if they and the length are right.
-#[derive(Drop)]
+#[derive(Clone, Copy)]
 struct Reading {
     position: usize,
     steps: usize,

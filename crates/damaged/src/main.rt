@@ -3,6 +3,8 @@
 //
 // The bytes are those of document 01's record X: 4 frames, next numbers 6 and 4; frames (number, parent, documents, shown place) from byte 12 on, (0, none, 1, 0), (1, 0, 2, 0),
 // (2, 1, 2, 1), (3, 0, 1, 0); then from byte 76 on documents, each with its row place, which is the same number: 0; 1, 5; 2, 4; 3. In the old form there are only the documents.
+#![tactic(auto)]
+
 ghost use Rattle.std.specs.Prelude.{◌<◌};
 
 use base::DocNo;
@@ -60,7 +62,7 @@ fn pair() -> [u32; 23] {
 }
 
 // Bytes of a form: so many of these, and whether it is the old one.
-#[derive(Drop)]
+#[derive(Clone, Copy)]
 struct Form {
     bytes: [u8; 125],
     len: usize,

@@ -2,6 +2,8 @@
 //
 // What bounds it, for n rows: one pass over them, up to the frame's first row in search of it and from there on closing the gaps. On the way a row looks back for its parent
 // among the rows kept so far, and not at all where that is the parent found last or the one missed last.
+#![tactic(auto)]
+
 ghost use Rattle.std.specs.Prelude.{◌≡◌, [], ◌∷◌, ◌-◌, ◌≤◌, ◌<◌, length};
 ghost use Rattle.rules.specs.Rows.{none, in_frame};
 ghost use Rattle.rules.specs.Moves.{without, dropped};
@@ -89,7 +91,7 @@ fn take_out(words: &mut [u32], first: RowPlace, frame: FrameNo) -> u32
 }
 
 // What Drop answers: how many rows went.
-#[derive(Drop)]
+#[derive(Clone, Copy)]
 pub enum Dropped {
     Rows(u32),
     Refused(Refusal),

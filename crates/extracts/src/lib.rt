@@ -3,6 +3,8 @@
 //
 // What bounds it, for n rows: the window's rows are copied in one walk, in which a row climbs unless its parent is one of those in mind (`members`). Where the window stands is
 // read off its flags in one walk more. Putting the flags back is one walk over both records.
+#![tactic(auto)]
+
 ghost use Rattle.std.proofs.Math.Bool.{So};
 ghost use Rattle.std.specs.Prelude.{cond, ◌≡◌, ◌+◌, ◌<◌, length, replicate, eqb};
 ghost use Rattle.rules.specs.Rows.{row_at, frame_at};
@@ -147,7 +149,7 @@ pub fn take_out(words: &[u32], root: FrameNo, first: RowPlace, own: &mut [u32])
 
 // What a walk over the rows has found: how many are shown, how many hidden, how many of these came before the latest shown step, its place, the first hidden row after it (the walk's own place
 // where there is none yet), and a bound on the frame numbers.
-#[derive(Drop)]
+#[derive(Clone, Copy)]
 struct Scan {
     shown: usize,
     hidden: usize,

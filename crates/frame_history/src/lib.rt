@@ -1,5 +1,7 @@
 // What a host calls: each call answers 0 or the refusal's number, and its values through out words, which keep what they hold on refusal. What refusal 5
 // carries is told through an out word of its own, the only one that a refusal writes.
+#![tactic(auto)]
+
 ghost use Rattle.std.specs.Prelude.{◌≡◌, [], ◌∷◌};
 ghost use Rattle.rules.specs.Places.{Place as Paper};
 ghost use Rattle.rules.specs.Calls.{Call, outcome};

@@ -1,4 +1,6 @@
 // One line of a script: what it asks, and the text of the line that answers it.
+#![tactic(auto)]
+
 ghost use Rattle.std.specs.Prelude.{true, [], ◌∷◌, ◌≡◌, ◌+◌, ◌-◌, ◌<◌, ◌≤◌, length};
 ghost use Rattle.lines.specs.Decimal.{decimal, digit?, leading_zero?, digits?, decimal?, spelled as spelled_by, up_to, numeral as numeral_of};
 ghost use Rattle.lines.specs.Lines.{starts? as starts_with, minus?, opening as opening_of, navigating as navigating_of, dropping as dropping_of, replacement as replacement_of, forth as forth_of, back as back_of, going_by as going_by_of, blank_at, root_named, going as going_of, tab?, other_word, worded as worded_of, parse as parse_of, command_is};
@@ -10,7 +12,7 @@ ghost use Rattle.lines.specs.Bounds.{Most};
 use base::{Carried, DocNo, FrameNo, Refusal};
 
 // What a line asks.
-#[derive(Drop)]
+#[derive(Clone, Copy)]
 pub enum Command {
     Open(DocNo),
     Nav(DocNo),
@@ -22,14 +24,14 @@ pub enum Command {
 }
 
 // A number that a text spells.
-#[derive(Drop)]
+#[derive(Clone, Copy)]
 pub enum Number {
     Is(u32),
     Nothing,
 }
 
 // An answer: a number, a new window's document and root frame, or a refusal, then position and steps.
-#[derive(Drop)]
+#[derive(Clone, Copy)]
 pub enum Reply {
     Ok(usize, usize, usize),
     Tab(DocNo, FrameNo, usize, usize),

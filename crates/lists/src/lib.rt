@@ -1,5 +1,7 @@
 // Position and Lists: the questions that name a window by its root frame. In a record of several, Position counts the window's flags in one walk, and Lists first takes the
 // window out into a record of its own.
+#![tactic(auto)]
+
 ghost use Rattle.std.specs.Prelude.{◌≡◌, [], ◌∷◌, length, ◌+◌, ◌-◌, ◌≤◌, ◌<◌, max};
 ghost use Rattle.rules.specs.Words.{rows_of};
 ghost use Rattle.rules.specs.Calls.{Call, outcome};
@@ -16,7 +18,7 @@ use members::Known;
 use sound::{Stand, Survey};
 
 // Where the window stands: position, steps, and the length for scripts.
-#[derive(Drop)]
+#[derive(Clone, Copy)]
 pub enum Standing {
     At(usize, usize, usize),
     Refused(Refusal),
@@ -35,7 +37,7 @@ fn position_alone(words: &[u32], s: Stand, root: FrameNo) -> Standing
 
 // What a walk over the rows has counted of a window: its hidden rows, which are as many as its steps, how many of them came before its latest shown step, which are its taken ones, a
 // bound on the frame numbers, and what is known of the window.
-#[derive(Drop)]
+#[derive(Clone, Copy)]
 struct Tally {
     hidden: usize,
     taken: usize,
@@ -120,7 +122,7 @@ pub fn position(words: &[u32], root: FrameNo) -> Standing
 }
 
 // How many steps are taken, and how many upcoming.
-#[derive(Drop)]
+#[derive(Clone, Copy)]
 pub enum Listed {
     Counts(usize, usize),
     Refused(Refusal),

@@ -1,5 +1,7 @@
 // Which rows of a table are of a window, row after row. A row is of its parent's window, so what was found of one holds of all with its parent: a walk keeps in mind
 // the parent last found within the window and the one last found outside it, and climbs only from a row that has neither.
+#![tactic(auto)]
+
 ghost use Rattle.std.specs.Prelude.{◌≡◌};
 ghost use Rattle.rules.specs.Windows.{root_at};
 ghost use Rattle.rules.specs.Words.{rows_of};
@@ -10,14 +12,14 @@ use base::{DocNo, FrameNo, RowPlace};
 use reads::NONE;
 
 // The parents of rows that were last found within the window and outside it; none where there was no such row.
-#[derive(Drop)]
+#[derive(Clone, Copy)]
 pub struct Known {
     pub within: DocNo,
     pub outside: DocNo,
 }
 
 // Whether a row is of the window, and what is known then.
-#[derive(Drop)]
+#[derive(Clone, Copy)]
 pub struct Member {
     pub inside: bool,
     pub known: Known,

@@ -1,4 +1,6 @@
 // Fresh, Open, and a further window.
+#![tactic(auto)]
+
 ghost use Rattle.std.specs.Prelude.{◌≡◌, [], ◌∷◌};
 ghost use Rattle.rules.specs.Calls.{Call, outcome};
 ghost use Rattle.sound.specs.Check.{Examined, Settles, Judged};
@@ -11,7 +13,7 @@ use reads::NONE;
 use sound::Check;
 
 // What Fresh answers.
-#[derive(Drop)]
+#[derive(Clone, Copy)]
 pub enum Freshened {
     Done,
     Refused(Refusal),
@@ -32,7 +34,7 @@ pub fn fresh(words: &mut [u32]) -> Freshened
 }
 
 // What Open and Tab answer: the numbers of the new document and its frame.
-#[derive(Drop)]
+#[derive(Clone, Copy)]
 pub enum Opened {
     Numbers(DocNo, FrameNo),
     Refused(Refusal),

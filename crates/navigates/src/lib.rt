@@ -2,6 +2,8 @@
 //
 // Where there is one window the pass of the test has told where its upcoming steps begin. Where there are several they are looked for, and from the first one on a row
 // that is not shown goes where it is of the window, which its parent tells.
+#![tactic(auto)]
+
 ghost use Rattle.std.specs.Prelude.{◌≡◌, false, cond, [], ◌∷◌, ◌+◌, ◌<◌, ◌≤◌, length};
 ghost use Rattle.std.proofs.Math.Bool.{So};
 ghost use Rattle.rules.specs.Below.{some_below, earliest};
@@ -148,7 +150,7 @@ fn go_from(words: &mut [u32], s: Stand, from: DocNo) -> DocNo
 }
 
 // What Navigate answers: the new document.
-#[derive(Drop)]
+#[derive(Clone, Copy)]
 pub enum Navigated {
     Arrived(DocNo),
     Refused(Refusal),
@@ -218,7 +220,7 @@ fn is_full_beside(words: &[u32], root: FrameNo, gap: RowPlace) -> bool
 }
 
 // Where a row stands to a window, as the rows kept so far tell: within it, outside it, or beneath a row that went.
-#[derive(Drop)]
+#[derive(Clone, Copy)]
 enum Side {
     Within,
     Outside,
@@ -226,7 +228,7 @@ enum Side {
 }
 
 // The parents that were last found within a window, found outside and missed: a row beneath one of them needs no look.
-#[derive(Drop)]
+#[derive(Clone, Copy)]
 struct Sides {
     within: DocNo,
     outside: DocNo,
@@ -310,7 +312,7 @@ fn is_outside(side: Side) -> bool
 }
 
 // Whether a row stays, and what is kept in mind then.
-#[derive(Drop)]
+#[derive(Clone, Copy)]
 struct Turn {
     stays: bool,
     known: Sides,

@@ -1,4 +1,6 @@
 // Numbers as the saved form has them, and what is made of a few: the numbers in front, a frame's line in the contents, a row's entry.
+#![tactic(auto)]
+
 ghost use Rattle.std.specs.Prelude.{◌≡◌, ◌+◌, ◌≤◌, length};
 ghost use Rattle.rules.specs.Words.{rows_of};
 ghost use Rattle.rules.specs.Saved.{number, entry};

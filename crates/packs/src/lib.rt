@@ -1,4 +1,6 @@
 // Closing gaps in place: rows that stay are moved down over those that go, and the record ends after the last of them. What every removal has in common.
+#![tactic(auto)]
+
 ghost use Rattle.std.specs.Prelude.{◌≢◌, ◌≡◌, true, false, cond, ◌+◌, ◌-◌, ◌*◌, ◌<◌, ◌≤◌, length, replicate};
 ghost use Rattle.std.proofs.Math.Bool.{So};
 ghost use Rattle.rules.specs.Below.{some_below};
@@ -66,7 +68,7 @@ pub fn keep_row(words: &mut [u32], at: RowPlace, k: usize, stays: bool) -> usize
 
 // What closing the gaps keeps in mind: how many rows are kept, a document that is none or held by one of them, and one that is neither.
 // The parent of the last row kept stands in the record. With the one found these are two, so that rows of two windows may come in turn and none needs a look.
-#[derive(Drop)]
+#[derive(Clone, Copy)]
 pub struct Keeping {
     pub rows: usize,
     pub found: DocNo,

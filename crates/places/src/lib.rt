@@ -3,6 +3,8 @@
 // What bounds it, for n rows and e entries: the test of the store looks at each entry once, and from one whose document is not above all earlier ones through those before it; freeing looks
 // from each entry through the rows. So asking takes e looks where the documents rise and at most e * e / 2, and setting 2 * e * n more; as many entries as the record has room for rows are
 // always enough.
+#![tactic(auto)]
+
 ghost use Rattle.std.specs.Prelude.{◌≡◌, true, [], ◌∷◌, ◌+◌, ◌*◌, ◌≤◌, ◌<◌, get_or};
 ghost use Rattle.std.proofs.Math.Bool.{So};
 ghost use Rattle.rules.specs.Below.{earliest};
@@ -21,7 +23,7 @@ use reads::Found;
 use sound::Check;
 
 // The document word of an entry: the number of a document, or any other of 64 bits.
-#[derive(Drop)]
+#[derive(Clone, Copy)]
 struct Owner(u64);
 
 // An entry of this one is free.
@@ -211,7 +213,7 @@ fn judge(words: &[u32], places: &[u64], d: DocNo) -> Check
 }
 
 // A document's place, or why it is not told.
-#[derive(Drop)]
+#[derive(Clone, Copy)]
 pub enum Placed {
     Stands(Place),
     Refused(Refusal),
@@ -289,7 +291,7 @@ fn spot_of(words: &[u32], places: &[u64], d: DocNo) -> usize
 }
 
 // Which entry a place goes to, or why to none.
-#[derive(Drop)]
+#[derive(Clone, Copy)]
 enum Spot {
     At(usize),
     No(Refusal),
@@ -364,7 +366,7 @@ fn put_place(places: &mut [u64], i: usize, d: DocNo, place: Place)
 }
 
 // Whether a place was set, or why not.
-#[derive(Drop)]
+#[derive(Clone, Copy)]
 pub enum Setting {
     Done,
     Refused(Refusal),

@@ -1,4 +1,6 @@
 // Doubles as scroll places have them: which are finite, their bits, a point and a place by value, and a place at a zoom.
+#![tactic(auto)]
+
 ghost use Rattle.std.specs.Prelude.{◌≡◌, true};
 ghost use Rattle.std.specs.Float.{binary64};
 ghost use Rattle.std.specs.Float.Ieee.{of_bits, to_bits};
@@ -38,14 +40,14 @@ pub fn bits_of(x: f64) -> u64
 
 // A point in CSS pixels.
 #[repr(C)]
-#[derive(Drop)]
+#[derive(Clone, Copy)]
 pub struct Point {
     pub x: f64,
     pub y: f64,
 }
 
 // Where a page stands: it places itself, or at a point.
-#[derive(Drop)]
+#[derive(Clone, Copy)]
 pub enum Place {
     Itself,
     At(Point),

@@ -2,6 +2,8 @@
 //
 // What bounds it, for n rows: one pass over the rows after the document's own, closing the gaps. On the way a row looks back for its parent among the rows kept so far, and not at
 // all where that is the parent found last or the one missed last.
+#![tactic(auto)]
+
 ghost use Rattle.std.specs.Prelude.{◌≡◌, [], ◌∷◌, ◌≢◌, ◌<◌, ◌≤◌, length};
 ghost use Rattle.rules.specs.Rows.{none, doc_at};
 ghost use Rattle.rules.specs.Moves.{without, is_child, replaced};
@@ -77,7 +79,7 @@ fn go_on(words: &mut [u32], d: DocNo) -> DocNo
 }
 
 // What Replace answers: the new document.
-#[derive(Drop)]
+#[derive(Clone, Copy)]
 pub enum Replaced {
     Arrived(DocNo),
     Refused(Refusal),

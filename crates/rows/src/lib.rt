@@ -1,4 +1,6 @@
 // Reading any words as a record: capacity, numbers, rows, and what is found among them. A row is read where there is room for the rows in use; past them every number is 0.
+#![tactic(auto)]
+
 ghost use Rattle.std.specs.Prelude.{◌≡◌, length, get_or};
 ghost use Rattle.rules.specs.Rows.{row_at, is_doc};
 ghost use Rattle.rules.specs.Words.{capacity, table_of, rows_of};
@@ -67,7 +69,7 @@ pub fn readable_count(words: &[u32]) -> usize
 }
 
 // A row: its document, its frame, its parent document, and the word that tells whether it is shown.
-#[derive(Drop)]
+#[derive(Clone, Copy)]
 pub struct Row {
     pub document: DocNo,
     pub frame: FrameNo,

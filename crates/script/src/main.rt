@@ -1,4 +1,6 @@
 // Prints the answers to the lines of standard input. What is printed for a text is what `texts` promises; here it is read and written.
+#![tactic(auto)]
+
 ghost use Rattle.std.specs.Prelude.{◌≤◌, length};
 
 use texts::Finished;
@@ -19,7 +21,7 @@ fn print(out: &[u8], used: usize) -> bool {
 }
 
 // How many bytes of the last line are kept, and whether all answers are written.
-#[derive(Drop)]
+#[derive(Clone, Copy)]
 struct Told {
     kept: usize,
     written: bool,
@@ -49,7 +51,7 @@ fn answer(
 }
 
 // What a read came to: with so many bytes of the last line kept there is more, or the input has ended; or it failed.
-#[derive(Drop)]
+#[derive(Clone, Copy)]
 enum Input {
     More(usize),
     End(usize),

@@ -1,4 +1,6 @@
 // The cases of scroll places, run on document 01's record X: every call's answer, and the words of the store after each setting.
+#![tactic(auto)]
+
 use base::{DocNo, Refusal};
 use places::{Placed, Setting};
 use points::{Place, Point};

@@ -11,6 +11,8 @@
 // Where all documents rise, as they do until one is replaced, S2 asks nothing more than that the last is below word 1. Else a loop from the last row to the first looks, for a row
 // whose document is neither below all later ones nor above them, whether it stands in a later row: a third triangular scan at most. In a record that the calls build only
 // rows that were replaced before a later one look.
+#![tactic(auto)]
+
 ghost use Rattle.std.specs.Prelude.{◌≡◌, true, false, cond, ◌+◌, ◌-◌, ◌<◌, ◌≤◌, min, max, length};
 ghost use Rattle.std.proofs.Math.Bool.{So};
 ghost use Rattle.rules.specs.Below.{some_below, all_below};
@@ -36,7 +38,7 @@ use reads::{Found, NONE};
 
 // What a pass knows of the rows behind it: some upcoming, a shown step after an upcoming one, several root frames, how many shown, how many frames, a bound on the
 // frame numbers, the parent found last; of the first upcoming one its place and how many frames had begun before it; and the latest step before that.
-#[derive(Drop)]
+#[derive(Clone, Copy)]
 pub struct Pass {
     pub late: bool,
     pub broken: bool,
@@ -51,7 +53,7 @@ pub struct Pass {
 }
 
 // What the test found: a rule that fails, or that all hold so far, with what the pass knows.
-#[derive(Drop)]
+#[derive(Clone, Copy)]
 enum Tested {
     Fails,
     Holds(Pass),
@@ -392,14 +394,14 @@ fn step_from(words: &[u32], from: RowPlace, high: FrameNo, root: FrameNo, known:
 }
 
 // A window of which a walk has found that no shown step stands later, and what it knows of it.
-#[derive(Drop)]
+#[derive(Clone, Copy)]
 struct Seen {
     root: FrameNo,
     known: Known,
 }
 
 // What a walk finds at a row: a shown step at it or later, in the window of which it is an upcoming one, or none, with the window last looked at.
-#[derive(Drop)]
+#[derive(Clone, Copy)]
 enum Look {
     Breaks,
     Goes(Seen),
@@ -531,7 +533,7 @@ fn is_short(words: &[u32]) -> bool
 }
 
 // Whether a call may go on.
-#[derive(Drop)]
+#[derive(Clone, Copy)]
 pub enum Check {
     Sound,
     No(Refusal),
@@ -552,7 +554,7 @@ pub fn examine(words: &[u32]) -> Check
 
 // Where the window stands: how many frames and how many steps there are, how many of these are taken, the place of the earliest upcoming one (the rows' end where there is
 // none), and that of the latest taken one (0 where there is none).
-#[derive(Drop)]
+#[derive(Clone, Copy)]
 pub struct Stand {
     pub frames: usize,
     pub steps: usize,
@@ -587,7 +589,7 @@ fn stand_of(words: &[u32], p: Pass) -> Stand
 }
 
 // Refusals 1 and 2, or where the one window stands, or that there are several.
-#[derive(Drop)]
+#[derive(Clone, Copy)]
 pub enum Survey {
     Stands(Stand),
     Several,

@@ -1,6 +1,8 @@
 // A script's whole text, read in parts: where its lines end, and what is printed for them.
 //
 // `read_line` ends a line, whatever is done with it then; `feed` and `finish` answer it as a line of a script.
+#![tactic(auto)]
+
 ghost use Rattle.std.specs.Prelude.{◌≡◌, ◌+◌, ◌≤◌, min, length, set, take};
 ghost use Rattle.base.specs.Numbers.{number_of, carried_by};
 ghost use Rattle.laws.specs.Writes.{Wrote};
@@ -12,7 +14,7 @@ use base::{DocNo, FrameNo, Refusal};
 use lines::Reply;
 
 // Where a reading of a text has come to: the place after what was read, how many bytes of the line are kept, and whether the line has ended.
-#[derive(Drop)]
+#[derive(Clone, Copy)]
 pub struct Cut {
     pub at: usize,
     pub kept: usize,
@@ -117,7 +119,7 @@ fn least(a: usize, b: usize) -> usize
 }
 
 // How many bytes of a line are kept, and how many bytes of answers are there.
-#[derive(Drop)]
+#[derive(Clone, Copy)]
 pub struct Place {
     pub kept: usize,
     pub used: usize,
@@ -144,7 +146,7 @@ fn settle(
 }
 
 // How much of a part of a text was read, how many bytes of its last line are kept, and how many bytes of answers there are.
-#[derive(Drop)]
+#[derive(Clone, Copy)]
 pub struct Fed {
     pub taken: usize,
     pub kept: usize,
@@ -181,7 +183,7 @@ pub fn feed(
 }
 
 // What the end of a text gives: how many bytes of answers there are, or that out or the line's buffer is too short.
-#[derive(Drop)]
+#[derive(Clone, Copy)]
 pub enum Finished {
     Printed(usize),
     Short,

@@ -1,4 +1,6 @@
 // What saved bytes tell, in either form: the numbers in them, how many frames and entries, a frame's line in the contents; and filling a record that is loaded.
+#![tactic(auto)]
+
 ghost use Rattle.std.specs.Prelude.{◌≡◌, false, [], ◌∷◌, ◌+◌, ◌*◌, ◌<◌, ◌≤◌, eqb, length};
 ghost use Rattle.rules.specs.Below.{sum};
 ghost use Rattle.rules.specs.Rows.{flag};
@@ -11,14 +13,14 @@ ghost use Rattle.told.specs.Shapes.{Totals, Measured, TellsOf, higher?, filled};
 use base::{DocNo, FrameNo, Refusal};
 
 // How many rows a loading call filled in.
-#[derive(Drop)]
+#[derive(Clone, Copy)]
 pub enum Loading {
     Rows(usize),
     Refused(Refusal),
 }
 
 // How many frames and entries bytes tell of, if the contents fit.
-#[derive(Drop)]
+#[derive(Clone, Copy)]
 pub struct Shape {
     pub frames: usize,
     pub rows: usize,
@@ -26,7 +28,7 @@ pub struct Shape {
 }
 
 // A frame that bytes tell of: how many entries come before its own, how many it has, its number, its parent, and which entry is shown.
-#[derive(Drop)]
+#[derive(Clone, Copy)]
 pub struct Entry {
     pub start: usize,
     pub docs: usize,

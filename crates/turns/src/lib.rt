@@ -1,4 +1,6 @@
 // What one line of a script does to a record, and what it is answered.
+#![tactic(auto)]
+
 ghost use Rattle.std.specs.Prelude.{◌≡◌};
 ghost use Rattle.base.specs.Numbers.{number_of, carried_by};
 ghost use Rattle.rules.specs.Calls.{Call, outcome};

@@ -1,4 +1,6 @@
 // Writing the record: a row, the three words before the rows, a row's document or flag, zeros, words copied. Each leaves every other word as it was.
+#![tactic(auto)]
+
 ghost use Rattle.std.specs.Prelude.{◌≡◌, [], ◌∷◌, ◌+◌, ◌-◌, ◌*◌, ◌<◌, ◌≤◌, length, replicate, set, take};
 ghost use Rattle.rules.specs.Words.{capacity, put};
 
