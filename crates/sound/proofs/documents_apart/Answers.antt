@@ -1,5 +1,4 @@
 -- The goals of `sound::documents_apart` that want a word.
-use Prim.Native.Nat.{◌-◌}
 use native.Mathlib.Omega.{arith}
 use Rattle.rules.specs.Words.{rows_of}
 use Rattle.sound.proofs.Documents.{tail_more, tail-twice, tail_all}

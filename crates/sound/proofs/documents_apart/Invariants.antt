@@ -1,5 +1,5 @@
 -- What the loops of `sound::documents_apart` keep.
-use Prim.Native.Nat.{◌-◌, ◌<◌}
+use Prim.Native.Nat.{◌<◌}
 use Rattle.rules.specs.Words.{rows_of}
 use Rattle.sound.proofs.Documents.{Tail}
 use Rattle.sound.proofs.documents_apart.Given as goal

@@ -1,5 +1,4 @@
 -- The goals of `sound::rest_zero` that want a word.
-use Prim.Native.Nat.{◌-◌}
 use mathlib.Core.Path.{sym, refl}
 use native.Mathlib.Omega.{arith}
 use Rattle.sound.proofs.Passes.{rest-starts, rest_more}

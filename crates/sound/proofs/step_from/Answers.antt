@@ -1,5 +1,4 @@
 -- The goals of `sound::step_from` that want a word.
-use Prim.Native.Nat.{◌-◌}
 use native.Mathlib.Omega.{arith}
 use Rattle.rules.specs.Rows.{frame_at}
 use Rattle.rules.specs.Words.{rows_of}
@@ -15,11 +14,11 @@ returns-then-m c = late-found c.args.root.0 (rows_of c.args.words.now) _ _ c.loo
 
 pub loop-j-preserved : goal.loop-j-preserved
 loop-j-preserved c = let rows = rows_of c.args.words.now in (
-      omega arith,
-      late-more c.args.root.0 rows _ _ c.loop-j.invariant.0 _ c.step_within-m.ensures.0 c.loop-j.invariant.1 c.if-m.false,
-      under_more (frame_at rows) _ _ _ c.loop-j.invariant.2 (omega (arith, c.higher-bound.ensures, c.frame.ensures)),
-      c.step_within-m.ensures.1,
-    )
+  omega arith,
+  late-more c.args.root.0 rows _ _ c.loop-j.invariant.0 _ c.step_within-m.ensures.0 c.loop-j.invariant.1 c.if-m.false,
+  under_more (frame_at rows) _ _ _ c.loop-j.invariant.2 (omega (arith, c.higher-bound.ensures, c.frame.ensures)),
+  c.step_within-m.ensures.1,
+)
 
 pub returns : goal.returns
 returns c = late-done c.args.root.0 (rows_of c.args.words.now) _ _ (omega (arith, c.row_count-n.ensures)) c.loop-j.invariant.1

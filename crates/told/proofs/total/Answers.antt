@@ -1,5 +1,4 @@
 -- The goals of `told::total` that want a word.
-use Prim.Native.Nat.{◌-◌}
 use native.Mathlib.Omega.{arith}
 use Rattle.rules.specs.Saved.{documents_in}
 use Rattle.told.proofs.Sizing.{sum_more, sum-none, total-over}
