@@ -1,5 +1,5 @@
 -- Where a window stands, by its flags alone: as many rows are hidden as there are steps, and as many of them before the latest shown step as are taken. Assumes nothing.
-use Prim.Native.Nat.{ℕ, suc, ◌≤◌, ◌<◌}
+use Prim.Native.Nat.{ℕ, ◌≤◌, ◌<◌}
 use mathlib.Core.Bool.{Bool, false, not, ◌&&◌, So, and-eq-true_iff}
 use mathlib.Core.List.{List}
 use mathlib.Core.Path.{◌≡◌, refl, sym, subst, ◌∙◌}

@@ -1,6 +1,6 @@
 -- Save, then Load: the table that was saved. The bytes that Load takes are those that Save writes for some sound table. Assumes nothing.
 use Prim.Native.Nat.{ℕ, zero, suc, ◌+◌, ◌*◌, ◌≤◌, ◌<◌}
-use mathlib.Core.Bool.{Bool, false, So}
+use mathlib.Core.Bool.{So}
 use mathlib.Core.List.{List}
 use mathlib.Core.Logic.{◌≢◌, ◌↔◌}
 use mathlib.Core.Path.{◌≡◌, refl, sym, ap, subst, ◌∙◌}
@@ -10,12 +10,12 @@ use lib.Dec.{eqb}
 use lib.ListN.{length, get_or, get_or-eq_default}
 use lib.Seq.{ext_get_or}
 use borrow.Author.Tests.{eqb-true, eq-eqb, ne_eqb, eqb-false}
-use Rattle.rules.specs.Below.{sum, tab}
+use Rattle.rules.specs.Below.{tab}
 use Rattle.rules.specs.Rows.{Row, Table, none, no_row, row_at, doc_at}
 use Rattle.rules.specs.Moves.{frames}
 use Rattle.rules.specs.Sound.{SoundTable}
-use Rattle.rules.specs.Saved.{saved_with, saved, number_at, documents_in, entries_in, document_at, place_told, told_rows, row_for, loaded, same_list, from_save?}
-use Rattle.laws.proofs.Tests.{test, off, by-lt, length-tab, tab-at, tab-is}
+use Rattle.rules.specs.Saved.{saved_with, saved, number_at, entries_in, document_at, place_told, told_rows, row_for, loaded, same_list, from_save?}
+use Rattle.laws.proofs.Tests.{test, by-lt, length-tab, tab-at, tab-is}
 use Rattle.laws.proofs.Reflect.{ref-eq, ref-and, ref-all, ref-map, sound-table-is}
 use Rattle.laws.proofs.Numbers.{Form, new_form, pair, length-saved, cells-twice, read_count, read-next-doc, read-next-frame, read-pair}
 use Rattle.laws.proofs.Trips.{table_is, all-documents, frames-few, told-total, frame-place, doc-place, entry_of, frame_below, doc-below, gathered-at, told-to, told-from}

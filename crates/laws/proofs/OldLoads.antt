@@ -7,7 +7,7 @@ use mathlib.Core.Path.{◌≡◌, sym, ap, subst, ◌∙◌}
 use native.Mathlib.Omega.{arith}
 use lib.ListN.{length}
 use borrow.Author.Tests.{eqb-true, eq-eqb}
-use Rattle.rules.specs.Below.{count, sum, gather}
+use Rattle.rules.specs.Below.{count, gather}
 use Rattle.rules.specs.Rows.{Row, Table, no_row, row_at, doc_at, is_doc, in_record, place}
 use Rattle.rules.specs.Moves.{frames}
 use Rattle.rules.specs.Sound.{SoundTable}
@@ -18,7 +18,7 @@ use Rattle.laws.proofs.Tree.{rising-all}
 use Rattle.laws.proofs.Reflect.{ref-and, old-table-is}
 use Rattle.laws.proofs.Numbers.{old_form, length-saved, read_count, read-next-doc, read-next-frame, read-documents, read-body}
 use Rattle.laws.proofs.Told.{length-told}
-use Rattle.laws.proofs.Trips.{table_is, all-documents, some-documents, frames-some, told-sum, told-total, frame-place, doc-place, entry_of, frame_below, doc-below, gathered-at, told-to, told-from}
+use Rattle.laws.proofs.Trips.{table_is, all-documents, some-documents, frames-some, told-total, frame-place, doc-place, entry_of, frame_below, doc-below, gathered-at, told-to, told-from}
 use Rattle.laws.proofs.Loads.{same-list-is, Sizes, saved-sizes}
 
 -- IN THE ORDER OF THEIR DOCUMENTS

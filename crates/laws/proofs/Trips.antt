@@ -1,5 +1,5 @@
 -- What the saved bytes of a sound table tell, in both forms: of each row, but for its place. Assumes nothing.
-use Prim.Native.Nat.{ℕ, ◌+◌, ◌*◌, ◌≤◌, ◌<◌}
+use Prim.Native.Nat.{ℕ, ◌+◌, ◌≤◌, ◌<◌}
 use mathlib.Core.Bool.{Bool, true, false, not, ◌&&◌, So, and-eq-true_iff}
 use mathlib.Core.List.{List}
 use mathlib.Core.Logic.{◌≢◌}

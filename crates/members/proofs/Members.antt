@@ -1,9 +1,9 @@
 -- What a walk knows of a window at its start, and after a row. Assumes nothing.
 use Prim.Native.Nat.{ℕ, ◌<◌}
-use mathlib.Core.Bool.{Bool, true, false, So, cond}
+use mathlib.Core.Bool.{true, false}
 use mathlib.Core.List.{List}
 use mathlib.Core.Logic.{◌≢◌}
-use mathlib.Core.Path.{◌≡◌, refl, sym, ap, ◌∙◌}
+use mathlib.Core.Path.{◌≡◌, sym, ap, ◌∙◌}
 use lib.Dec.{eqb}
 use lib.ListN.{length}
 use borrow.Author.Tests.{eq-eqb}
@@ -14,7 +14,6 @@ use Rattle.laws.proofs.Tests.{test}
 use Rattle.windows.proofs.Roots.{root-top}
 use Rattle.members.specs.Members.{Kin, Recalls, Sided, nothing, learned}
 use Rattle.members.specs.declared.Known.{Known}
-use Rattle.members.specs.declared.Member.{Member}
 
 pub nothing-recalled : (rows : List Row) → Kin rows → (r : ℕ) → Recalls r rows nothing
 nothing-recalled rows kin r = record { kin = kin; within-is = λ i l up e. absurd (up e); outside-is = λ i l up e. absurd (up e) }

@@ -2,7 +2,7 @@
 use Prim.Native.Nat.{ℕ, suc, ◌+◌, ◌≤◌, ◌<◌}
 use mathlib.Core.Bool.{Bool, true, false, not, ◌&&◌, So, and-eq-true_iff}
 use mathlib.Core.List.{List}
-use mathlib.Core.Path.{◌≡◌, refl, sym, ap, subst, ◌∙◌}
+use mathlib.Core.Path.{◌≡◌, refl, sym, subst, ◌∙◌}
 use native.Mathlib.Numerals.{add-one}
 use native.Mathlib.Omega.{arith}
 use lib.Dec.{eqb, leb}
@@ -25,7 +25,6 @@ use Rattle.reads.specs.declared.Found.{Found}
 use Rattle.reads.specs.declared.Found.TheVariants.{At, Nothing}
 use Rattle.reads.proofs.Scans.{first_found}
 use Rattle.members.specs.Members.{Kin, Recalls, Sided}
-use Rattle.members.specs.declared.Known.{Known}
 use Rattle.members.specs.declared.Member.{Member}
 use Rattle.sound.specs.Quick.{comes, comes_in, quiet, calm, firm?}
 use Rattle.sound.specs.Pass.{Passed, StepAfter}

@@ -1,7 +1,6 @@
 -- What the pass of the test tells, in the code's shape. Assumes nothing.
-use Prim.Native.Nat.{ℕ, suc, ◌+◌, ◌-◌, ◌*◌, ◌≤◌, ◌<◌, max}
-use mathlib.Core.Bool.{Bool, true, false, not, ◌&&◌, ◌||◌, So, cond, false≢true, and-eq-true_iff}
-use mathlib.Core.Logic.{⊎_elim}
+use Prim.Native.Nat.{ℕ, suc, ◌+◌, ◌*◌, ◌≤◌, ◌<◌, max}
+use mathlib.Core.Bool.{Bool, true, false, not, ◌&&◌, ◌||◌, So, false≢true, and-eq-true_iff}
 use mathlib.Core.List.{List}
 use mathlib.Core.Path.{◌≡◌, refl, sym, ap, subst, ◌∙◌}
 use native.Mathlib.Numerals.{add-one}
@@ -23,7 +22,7 @@ use Rattle.laws.proofs.Words.{rows-length}
 use Rattle.reads.specs.Found.{found_below}
 use Rattle.reads.specs.declared.Found.{Found}
 use Rattle.reads.specs.declared.Found.TheVariants.{At, Nothing}
-use Rattle.laws.proofs.Tests.{test, clash, off, or_left, or_right, or_cases, or-false, some_in, some_out, all_in, all-out, count_yes, count_no}
+use Rattle.laws.proofs.Tests.{test, clash, off, or_left, or_right, or-false, some_in, some_out, all_in, all-out, count_yes, count_no}
 use Rattle.reads.specs.Within.{Within}
 use Rattle.reads.specs.Under.{Under}
 use Rattle.laws.proofs.Loops.{all-flag, count-more, earliest-none, latest-yes, latest-no}

@@ -49,9 +49,9 @@ place_after fr a b l e =
 
 module _ (rows : List Row) where
   -- The row before a step; what comes, where a frame goes on after a shown row.
-  row_before : (i : ℕ) → So (is_step rows i) → (row_before rows i < i) × (frame_at rows (row_before rows i) ≡ frame_at rows i)
+  row_before_lem : (i : ℕ) → So (is_step rows i) → (row_before rows i < i) × (frame_at rows (row_before rows i) ≡ frame_at rows i)
   unfolding row_before
-  row_before = place-before (frame_at rows)
+  row_before_lem = place-before (frame_at rows)
 
   comes-in : (a b : ℕ) → a < b → frame_at rows a ≡ frame_at rows b → So (is_shown rows a) → (i : ℕ) × (i ≤ b) × So (comes rows i) × (frame_at rows i ≡ frame_at rows b)
   unfolding comes row_before
@@ -155,14 +155,14 @@ module _ (rows : List Row) where
 
 pub sound-linked : (rows : List Row) → S4 rows → S5 rows → (i : ℕ) → i < length rows → So (linked rows i)
 sound-linked rows s4 s5 i l =
-    (linked-is rows i).1 (λ t. let b = row_before rows i t in s5.kin i (row_before rows i) l (omega arith) (sym b.1), λ f. s4.placed i l)
+    (linked-is rows i).1 (λ t. let b = row_before_lem rows i t in s5.kin i (row_before rows i) l (omega arith) (sym b.1), λ f. s4.placed i l)
 
 module _ (rows : List Row) (s6 : S6 rows) where
   -- What comes is upcoming.
   pub comes-upcoming : (k : ℕ) → k < length rows → So (comes rows k) → So (upcoming rows k)
   comes-upcoming k l c =
       let u = comes-out rows k c in
-      let b = row_before rows k u.0 in
+      let b = row_before_lem rows k u.0 in
       let f = off (reached rows k) (λ h.
       let r = reach-out _ _ _ k h in
       let e = only-shown rows s6 (row_before rows k) r.0 (omega arith) r.2 (r.3 ∙ sym b.1) u.1 r.4 in
@@ -206,7 +206,7 @@ module _ (rows : List Row) (fine : (i : ℕ) → i < length rows → So (linked 
   head (suc m) i l a =
       test (is_step rows i)
       (λ t.
-      let b = row_before rows i t in
+      let b = row_before_lem rows i t in
       let h = head m (row_before rows i) (omega arith) (omega arith) in
       (h.0, omega arith, h.2 ∙ b.1, h.3 ∙ sym (((linked-is rows i).0 (fine i a)).0 t), h.4))
       (λ f. (i, omega arith, refl, refl, f))

@@ -1,6 +1,5 @@
 -- The test of S2 to S7 as a pass over the rows makes it, and where they are not in order by themselves a look at each window. That it is the test of the rules is `quick-is`.
 use Rattle.std.specs.Prelude.{ℕ, suc, ◌-◌, ◌≤◌, ◌<◌, Bool, not, ◌&&◌, ◌||◌, cond, List, eqb, leb, ltb, length}
-use Rattle.std.proofs.Math.Bool.{So}
 use Rattle.rules.specs.Below.{some_below, all_below, count, latest}
 use Rattle.rules.specs.Rows.{Row, none, doc_at, frame_at, parent_at, shown_at, is_shown, is_doc}
 use Rattle.rules.specs.Steps.{is_step}

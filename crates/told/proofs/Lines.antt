@@ -7,7 +7,7 @@ use native.Mathlib.Omega.{arith}
 use lib.Dec.{eqb, ltb}
 use borrow.Author.Tests.{eq-eqb, ne_eqb}
 use Rattle.rules.specs.Rows.{flag}
-use Rattle.rules.specs.Saved.{number_at, frame_in}
+use Rattle.rules.specs.Saved.{number_at}
 use Rattle.told.specs.Shapes.{higher?}
 
 module _ (bytes : List ℕ) (j f : ℕ) where

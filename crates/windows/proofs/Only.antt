@@ -4,7 +4,7 @@ use mathlib.Core.Bool.{false, So}
 use mathlib.Core.Path.{◌≡◌, sym, ap, subst}
 use lib.IntN.{ℤ, pos, ◌+ℤ◌}
 use borrow.Author.Tests.{eq-eqb}
-use Rattle.rules.specs.Rows.{Row, Table}
+use Rattle.rules.specs.Rows.{Table}
 use Rattle.rules.specs.Steps.{position, steps}
 use Rattle.rules.specs.Windows.{window_rows, is_root}
 use Rattle.rules.specs.Moves.{walked, traversed}

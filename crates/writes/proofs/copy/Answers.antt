@@ -1,5 +1,4 @@
 -- The goals of `writes::copy` that want a word.
-use Prim.Native.Nat.{◌-◌}
 use native.Mathlib.Omega.{arith}
 use lib.ListN.{length-set}
 use borrow.Author.Rules.{rules}
