@@ -1,5 +1,4 @@
 -- The goals of `lines::all_digits` that want a word.
-use Prim.Native.Nat.{◌-◌}
 use Rattle.laws.proofs.Loops.{loops}
 use Rattle.lines.proofs.all_digits.Goals as goal
 

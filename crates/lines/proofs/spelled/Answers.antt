@@ -1,5 +1,5 @@
 -- The goals of `lines::spelled` that want a word.
-use Prim.Native.Nat.{◌-◌, ◌+◌}
+use Prim.Native.Nat.{◌+◌}
 use mathlib.Core.Path.{refl}
 use native.Mathlib.Omega.{arith}
 use Rattle.lines.proofs.Numerals.{spelled_none, spelled-more, spelled-over, spelled-done, digit_at}
