@@ -4,6 +4,7 @@
 use base::{DocNo, Refusal};
 use places::{Placed, Setting};
 use points::{Place, Point};
+use std::io;
 
 // No parent.
 const NONE: u32 = 4294967295;
@@ -22,93 +23,55 @@ const ENDLESS: u64 = 0x7ff0000000000000;
 
 const ODD: u64 = 0x7ff8000000000abc;
 
-// Writes text.
-fn say(text: &[u8]) {
-    io::write_all(1, text);
-}
-
-// Writes a number.
-fn say_number(n: u64) {
-    io::print_decimal(1, n);
-}
-
-// Writes a number after a space.
-fn say_next(n: u64) {
-    say(b" ");
-    say_number(n);
-}
-
 // Writes a refusal's number.
-fn say_refused(r: Refusal) {
-    say(b" refused ");
-    say_number(base::refusal_number(r) as u64);
-    say(b"\n");
+fn say_refused(rt: &impl Print, r: Refusal) -> io::Result<()> {
+    println!(rt; " refused {}", base::refusal_number(r))
 }
 
 // The words of two entries.
-fn say_store(store: &[u64; 8]) {
-    say(b"  store");
-    say_next(store[0]);
-    say_next(store[1]);
-    say_next(store[2]);
-    say_next(store[3]);
-    say(b",");
-    say_next(store[4]);
-    say_next(store[5]);
-    say_next(store[6]);
-    say_next(store[7]);
-    say(b"\n");
+fn say_store(rt: &impl Print, store: &[u64; 8]) -> io::Result<()> {
+    let [d, kind, x, y, d2, kind2, x2, y2] = *store;
+    println!(rt; "  store {d} {kind} {x} {y}, {d2} {kind2} {x2} {y2}")
 }
 
 // A place: its kind, and the bits of a point, as they stand in an entry that it is set in.
-fn say_place(words: &[u32], place: Place) {
+fn say_place(rt: &impl Print, words: &[u32], place: Place) -> io::Result<()> {
     let mut entry = [FREE, 0, 0, 0];
     match places::set_place(words, &mut entry, DocNo(0), place) {
-        Setting::Done => {
-            say_next(entry[1]);
-            say_next(entry[2]);
-            say_next(entry[3]);
-            say(b"\n");
-        }
-        Setting::Refused(r) => say_refused(r),
+        Setting::Done => println!(rt; " {} {} {}", entry[1], entry[2], entry[3]),
+        Setting::Refused(r) => say_refused(rt, r),
     }
 }
 
 // An answer, told.
-fn say_placed(words: &[u32], answer: Placed) {
+fn say_placed(rt: &impl Print, words: &[u32], answer: Placed) -> io::Result<()> {
     match answer {
-        Placed::Stands(place) => say_place(words, place),
-        Placed::Refused(r) => say_refused(r),
+        Placed::Stands(place) => say_place(rt, words, place),
+        Placed::Refused(r) => say_refused(rt, r),
     }
 }
 
 // A setting, told.
-fn set(words: &[u32], store: &mut [u64], d: u32, place: Place) {
-    say(b"  set");
-    say_next(d as u64);
-    say(b":");
+fn set(rt: &impl Print, words: &[u32], store: &mut [u64], d: u32, place: Place) -> io::Result<()> {
+    print!(rt; "  set {d}:")?;
     match places::set_place(words, store, DocNo(d), place) {
-        Setting::Done => say(b" done\n"),
-        Setting::Refused(r) => say_refused(r),
+        Setting::Done => println!(rt; " done"),
+        Setting::Refused(r) => say_refused(rt, r),
     }
 }
 
 // A question, told.
-fn ask(words: &[u32], store: &[u64], d: u32) {
-    say(b"  ask");
-    say_next(d as u64);
-    say(b":");
+fn ask(rt: &impl Print, words: &[u32], store: &[u64], d: u32) -> io::Result<()> {
+    print!(rt; "  ask {d}:")?;
     let answer = places::place(words, store, DocNo(d));
-    say_placed(words, answer);
+    say_placed(rt, words, answer)
 }
 
 // A question at a zoom, told.
-fn ask_at_zoom(words: &[u32], store: &[u64], d: u32, zoom: f64) {
-    say(b"  ask at a zoom");
-    say_next(d as u64);
-    say(b":");
+fn ask_at_zoom(rt: &impl Print, words: &[u32], store: &[u64], d: u32, zoom: f64) -> io::Result<()> {
+    print!(rt; "  ask at a zoom {d}:")?;
     let answer = places::place_at_zoom(words, store, DocNo(d), zoom);
-    say_placed(words, answer);
+    say_placed(rt, words, answer)
 }
 
 // A point.
@@ -124,87 +87,87 @@ fn record_x() -> [u32; 27] {
 }
 
 // A hidden document takes the first free entry, and gets -0 and 1.5 back.
-fn first_free() {
-    say(b"first free\n");
+fn first_free(rt: &impl Print) -> io::Result<()> {
+    println!(rt; "first free")?;
     let words = record_x();
     let mut store = [FREE, 2, 5, 6, FREE, 0, 7, 8];
-    set(&words, &mut store, 2, at(-0.0, 1.5));
-    say_store(&store);
-    ask(&words, &store, 2);
-    ask(&words, &store, 4);
+    set(rt, &words, &mut store, 2, at(-0.0, 1.5))?;
+    say_store(rt, &store)?;
+    ask(rt, &words, &store, 2)?;
+    ask(rt, &words, &store, 4)
 }
 
 // A document keeps its own entry, though a free one stands before it; kind 0 keeps the doubles.
-fn own_entry() {
-    say(b"own entry\n");
+fn own_entry(rt: &impl Print) -> io::Result<()> {
+    println!(rt; "own entry")?;
     let words = record_x();
     let mut store = [FREE, 0, 5, 6, 4, 0, ENDLESS, ODD];
-    set(&words, &mut store, 4, at(1.5, 0.1));
-    say_store(&store);
-    set(&words, &mut store, 4, Place::Itself);
-    say_store(&store);
-    ask(&words, &store, 4);
+    set(rt, &words, &mut store, 4, at(1.5, 0.1))?;
+    say_store(rt, &store)?;
+    set(rt, &words, &mut store, 4, Place::Itself)?;
+    say_store(rt, &store)?;
+    ask(rt, &words, &store, 4)
 }
 
 // Document 9 is gone: its entry is freed, where its document alone changes, and taken; 4294967300 is not 4.
-fn gone() {
-    say(b"gone\n");
+fn gone(rt: &impl Print) -> io::Result<()> {
+    println!(rt; "gone")?;
     let words = record_x();
     let mut one = [4, 1, TENTH, THREE, 9, 1, HUGE, TENTH];
-    set(&words, &mut one, 4, at(3.0, 0.1));
-    say_store(&one);
+    set(rt, &words, &mut one, 4, at(3.0, 0.1))?;
+    say_store(rt, &one)?;
     let mut two = [4, 1, TENTH, THREE, 9, 1, HUGE, TENTH];
-    set(&words, &mut two, 1, Place::Itself);
-    say_store(&two);
+    set(rt, &words, &mut two, 1, Place::Itself)?;
+    say_store(rt, &two)?;
     let mut three = [4294967300, 1, TENTH, THREE, FREE, 0, 5, 6];
-    set(&words, &mut three, 4, Place::Itself);
-    say_store(&three);
+    set(rt, &words, &mut three, 4, Place::Itself)?;
+    say_store(rt, &three)
 }
 
 // Each coordinate times the zoom, rounded once; what is not finite is refused, also where the page places itself.
-fn zooms() {
-    say(b"zooms\n");
+fn zooms(rt: &impl Print) -> io::Result<()> {
+    println!(rt; "zooms")?;
     let words = record_x();
     let store = [4, 1, TENTH, THREE, 0, 1, TENTH, HUGE];
-    ask_at_zoom(&words, &store, 4, 3.0);
-    ask_at_zoom(&words, &store, 4, 1.0);
-    ask_at_zoom(&words, &store, 4, -0.0);
-    ask_at_zoom(&words, &store, 0, 3.0);
-    ask_at_zoom(&words, &store, 1, 3.0);
-    ask_at_zoom(&words, &store, 1, 1.0 / 0.0);
-    ask_at_zoom(&words, &store, 9, 0.0 / 0.0);
+    ask_at_zoom(rt, &words, &store, 4, 3.0)?;
+    ask_at_zoom(rt, &words, &store, 4, 1.0)?;
+    ask_at_zoom(rt, &words, &store, 4, -0.0)?;
+    ask_at_zoom(rt, &words, &store, 0, 3.0)?;
+    ask_at_zoom(rt, &words, &store, 1, 3.0)?;
+    ask_at_zoom(rt, &words, &store, 1, 1.0 / 0.0)?;
+    ask_at_zoom(rt, &words, &store, 9, 0.0 / 0.0)
 }
 
 // A document twice, a kind of 2 and a point that is infinite are refused by 15, before 4; a free entry may hold anything.
-fn bad_stores() {
-    say(b"bad stores\n");
+fn bad_stores(rt: &impl Print) -> io::Result<()> {
+    println!(rt; "bad stores")?;
     let words = record_x();
-    ask(&words, &[9, 0, 0, 0, 9, 1, TENTH, THREE], 9);
-    ask(&words, &[4, 2, 0, 0, FREE, 0, 0, 0], 4);
-    ask(&words, &[4, 1, 0, ENDLESS, FREE, 0, 0, 0], 4);
-    ask(&words, &[FREE, 2, ENDLESS, ODD, FREE, 1, ODD, 0], 4);
-    ask(&words, &[FREE, 2, ENDLESS, ODD, FREE, 1, ODD, 0], NONE);
+    ask(rt, &words, &[9, 0, 0, 0, 9, 1, TENTH, THREE], 9)?;
+    ask(rt, &words, &[4, 2, 0, 0, FREE, 0, 0, 0], 4)?;
+    ask(rt, &words, &[4, 1, 0, ENDLESS, FREE, 0, 0, 0], 4)?;
+    ask(rt, &words, &[FREE, 2, ENDLESS, ODD, FREE, 1, ODD, 0], 4)?;
+    ask(rt, &words, &[FREE, 2, ENDLESS, ODD, FREE, 1, ODD, 0], NONE)
 }
 
 // Refused, a setting leaves every word, also those that it would have freed.
-fn refused() {
-    say(b"refused\n");
+fn refused(rt: &impl Print) -> io::Result<()> {
+    println!(rt; "refused")?;
     let words = record_x();
     let mut store = [4, 1, TENTH, THREE, 9, 1, HUGE, TENTH];
-    set(&words, &mut store, 1, at(0.0 / 0.0, 3.0));
-    say_store(&store);
-    set(&words, &mut store, 9, Place::Itself);
-    say_store(&store);
+    set(rt, &words, &mut store, 1, at(0.0 / 0.0, 3.0))?;
+    say_store(rt, &store)?;
+    set(rt, &words, &mut store, 9, Place::Itself)?;
+    say_store(rt, &store)?;
     let mut full = [4, 1, TENTH, THREE, 5, 0, 0, 0];
-    set(&words, &mut full, 1, at(3.0, 0.1));
-    say_store(&full);
+    set(rt, &words, &mut full, 1, at(3.0, 0.1))?;
+    say_store(rt, &full)
 }
 
-fn main() {
-    first_free();
-    own_entry();
-    gone();
-    zooms();
-    bad_stores();
-    refused();
+fn main(rt: HostRuntime) -> io::Result<()> {
+    first_free(&rt)?;
+    own_entry(&rt)?;
+    gone(&rt)?;
+    zooms(&rt)?;
+    bad_stores(&rt)?;
+    refused(&rt)
 }
