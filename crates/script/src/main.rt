@@ -3,126 +3,138 @@
 
 ghost use Rattle.std.specs.Prelude.{◌≤◌, length};
 
+use anyhow::{Context, Result};
+use std::io::{Read, Write};
+use std::process::ExitCode;
 use texts::Finished;
 
-// Writes the first bytes of out; where that fails, says so on standard error.
-fn print(out: &[u8], used: usize) -> bool {
-    if out.len() < used {
-        return false;
-    }
-    if used == 0 {
-        return true;
-    }
-    if io::write_all(1, &out[0..used]) {
-        return true;
-    }
-    io::write_all(2, b"script: cannot write to standard output\n");
-    false
+// Writes answers.
+fn print(output: &mut impl Write, answers: &[u8]) -> Result<()> {
+    output
+        .write_all(answers)
+        .context("script: cannot write to standard output")
 }
 
-// How many bytes of the last line are kept, and whether all answers are written.
-#[derive(Clone, Copy)]
-struct Told {
-    kept: usize,
-    written: bool,
-}
-
-// Answers the lines of a part of the input, and writes the answers as often as out is full.
+// Answers the lines of a part of the input, and writes the answers as often as out is full. How many bytes of the last line are kept.
 fn answer(
+    output: &mut impl Write,
     text: &[u8],
     line: &mut [u8],
     kept: usize,
     words: &mut [u32],
     changes: &mut [u32],
     out: &mut [u8],
-) -> Told
+) -> Result<usize>
     requires { (65 ≤ length line.old) × (67 ≤ length out.old) }
 {
     let mut at = 0;
     let mut len = kept;
-    let mut written = true;
-    while written & (at < text.len()) {
+    while at < text.len() {
         let f = texts::feed(&text[at..], line, len, words, changes, out);
-        written = print(out, f.used);
+        print(output, &out[..f.used])?;
         at += f.taken;
         len = f.kept;
     }
-    Told { kept: len, written }
+    Ok(len)
 }
 
-// What a read came to: with so many bytes of the last line kept there is more, or the input has ended; or it failed.
+// What a read came to: with so many bytes of the last line kept there is more, or the input has ended.
 #[derive(Clone, Copy)]
 enum Input {
     More(usize),
-    End(usize),
-    Failed,
+    End,
 }
 
-// Reads once, and answers what was read; where the read fails, says so on standard error.
+// Reads once, and answers what was read.
 fn take(
+    input: &mut impl Read,
+    output: &mut impl Write,
     buf: &mut [u8],
     line: &mut [u8],
     kept: usize,
     words: &mut [u32],
     changes: &mut [u32],
     out: &mut [u8],
-) -> Input
+) -> Result<Input>
     requires { (65 ≤ length line.old) × (67 ≤ length out.old) }
 {
-    let got = libc::read(0, buf);
-    if got < 0 {
-        io::write_all(2, b"script: cannot read standard input\n");
-        return Input::Failed;
-    }
-    let n = io::count(got, buf);
+    let n = input
+        .read(buf)
+        .context("script: cannot read standard input")?;
     if n == 0 {
-        return Input::End(kept);
+        return Ok(Input::End);
     }
-    let told = answer(&buf[..n], line, kept, words, changes, out);
-    if !told.written {
-        return Input::Failed;
-    }
-    Input::More(told.kept)
+    let len = answer(output, &buf[..n], line, kept, words, changes, out)?;
+    Ok(Input::More(len))
 }
 
 // Answers the last line, where it lacks its newline.
-fn finish(line: &[u8], kept: usize, words: &mut [u32], changes: &mut [u32], out: &mut [u8]) {
+fn finish(
+    output: &mut impl Write,
+    line: &[u8],
+    kept: usize,
+    words: &mut [u32],
+    changes: &mut [u32],
+    out: &mut [u8],
+) -> Result<()> {
     let Finished::Printed(used) = texts::finish(line, kept, words, changes, out) else {
-        return;
+        return Ok(());
     };
-    print(out, used);
+    print(output, &out[..used])
 }
 
-// Reads until the input ends or fails. A proved loop has to end, so the reads are counted down from a number that no run uses up.
-fn run(buf: &mut [u8], line: &mut [u8], words: &mut [u32], changes: &mut [u32], out: &mut [u8])
+// Reads until the input ends or fails. A proved loop has to end, so the reads are counted up to a number that no run comes to.
+fn run(
+    input: &mut impl Read,
+    output: &mut impl Write,
+    buf: &mut [u8],
+    line: &mut [u8],
+    words: &mut [u32],
+    changes: &mut [u32],
+    out: &mut [u8],
+) -> Result<()>
     requires { (65 ≤ length line.old) × (67 ≤ length out.old) }
 {
-    let mut left = u64::MAX;
-    let mut kept: usize = 0;
-    while left > 0 {
-        match take(buf, line, kept, words, changes, out) {
+    let mut kept = 0;
+    for _ in 0..u64::MAX {
+        match take(input, output, buf, line, kept, words, changes, out)? {
             Input::More(n) => {
                 kept = n;
             }
-            Input::End(n) => {
-                finish(line, n, words, changes, out);
-                return;
-            }
-            Input::Failed => {
-                return;
+            Input::End => {
+                return finish(output, line, kept, words, changes, out);
             }
         }
-        left -= 1;
     }
+    Ok(())
 }
 
 // Starts from Fresh with room for 512 rows.
-fn main() {
-    let mut buf = io::large_buffer();
-    let mut out = io::large_buffer();
+fn script(input: &mut impl Read, output: &mut impl Write) -> Result<()> {
+    let mut buf = [0u8; 65536];
+    let mut out = [0u8; 65536];
     let mut line = [0u8; 65];
     let mut words = [0u32; 2051];
     let mut changes = [0u32; 2048];
     moves::fresh(&mut words);
-    run(&mut buf, &mut line, &mut words, &mut changes, &mut out);
+    run(
+        input,
+        output,
+        &mut buf,
+        &mut line,
+        &mut words,
+        &mut changes,
+        &mut out,
+    )
+}
+
+// A read or a write that fails is told on standard error.
+fn main(rt: HostRuntime) -> ExitCode {
+    match script(&mut rt.stdin(), &mut rt.stdout()) {
+        Ok(()) => ExitCode::SUCCESS,
+        Err(e) => {
+            let _ = rt.eprintln(e);
+            ExitCode::FAILURE
+        }
+    }
 }
