@@ -44,8 +44,7 @@ fn refused(why: Refusal, hiding: &mut u32) -> u32
 }
 
 // Writes the record of a new window: one document in the root frame.
-#[unsafe(no_mangle)]
-pub extern "C" fn frame_history_fresh(words: &mut [u32]) -> u32
+pub fn frame_history_fresh(words: &mut [u32]) -> u32
     ensures { face (outcome (Call.Fresh words.old)) [] ≡ record { number = result; outs = []; lent = words.new ∷ [] } }
 {
     match moves::fresh(words) {
@@ -55,8 +54,7 @@ pub extern "C" fn frame_history_fresh(words: &mut [u32]) -> u32
 }
 
 // Opens a frame under a visible document: the numbers of the new document and its frame.
-#[unsafe(no_mangle)]
-pub extern "C" fn frame_history_open(
+pub fn frame_history_open(
     words: &mut [u32],
     parent: u32,
     document: &mut u32,
@@ -77,8 +75,7 @@ pub extern "C" fn frame_history_open(
 }
 
 // Opens a window: the numbers of its document and its root frame.
-#[unsafe(no_mangle)]
-pub extern "C" fn frame_history_tab(words: &mut [u32], document: &mut u32, frame: &mut u32) -> u32
+pub fn frame_history_tab(words: &mut [u32], document: &mut u32, frame: &mut u32) -> u32
     ensures { face (outcome (Call.Tab words.old)) (document.old ∷ frame.old ∷ [])
         ≡ record { number = result; outs = document.new ∷ frame.new ∷ []; lent = words.new ∷ [] } }
 {
@@ -93,8 +90,7 @@ pub extern "C" fn frame_history_tab(words: &mut [u32], document: &mut u32, frame
 }
 
 // Navigates from a visible document: the number of the new document.
-#[unsafe(no_mangle)]
-pub extern "C" fn frame_history_navigate(
+pub fn frame_history_navigate(
     words: &mut [u32],
     from: u32,
     document: &mut u32,
@@ -113,8 +109,7 @@ pub extern "C" fn frame_history_navigate(
 }
 
 // Takes a frame out, with all beneath it: how many rows went.
-#[unsafe(no_mangle)]
-pub extern "C" fn frame_history_drop(
+pub fn frame_history_drop(
     words: &mut [u32],
     frame: u32,
     removed: &mut u32,
@@ -133,8 +128,7 @@ pub extern "C" fn frame_history_drop(
 }
 
 // Replaces a visible document in its own row: the number of the new one.
-#[unsafe(no_mangle)]
-pub extern "C" fn frame_history_replace(
+pub fn frame_history_replace(
     words: &mut [u32],
     document: u32,
     replacement: &mut u32,
@@ -167,8 +161,7 @@ fn told(answer: Traversed, count: &mut u32) -> u32
 }
 
 // Traverses a window by a signed amount: how many change rows are written, of four words each.
-#[unsafe(no_mangle)]
-pub extern "C" fn frame_history_traverse(
+pub fn frame_history_traverse(
     words: &mut [u32],
     root: u32,
     delta: i32,
@@ -183,8 +176,7 @@ pub extern "C" fn frame_history_traverse(
 }
 
 // Traverses a window by a signed amount: how many change rows are written, into rows lent as structs.
-#[unsafe(no_mangle)]
-pub extern "C" fn frame_history_traverse_rows(
+pub fn frame_history_traverse_rows(
     words: &mut [u32],
     root: u32,
     delta: i32,
@@ -199,8 +191,7 @@ pub extern "C" fn frame_history_traverse_rows(
 }
 
 // Position and steps of a window, and the length for scripts.
-#[unsafe(no_mangle)]
-pub extern "C" fn frame_history_position(
+pub fn frame_history_position(
     words: &[u32],
     root: u32,
     position: &mut u32,
@@ -222,8 +213,7 @@ pub extern "C" fn frame_history_position(
 }
 
 // Whether a document is visible: 1 or 0; who hides it; and how many parent links were followed.
-#[unsafe(no_mangle)]
-pub extern "C" fn frame_history_visible(
+pub fn frame_history_visible(
     words: &[u32],
     document: u32,
     answer: &mut u32,
@@ -251,8 +241,7 @@ pub extern "C" fn frame_history_visible(
 }
 
 // Taken steps of a window, latest first, and upcoming ones, earliest first: how many of each are written.
-#[unsafe(no_mangle)]
-pub extern "C" fn frame_history_lists(
+pub fn frame_history_lists(
     words: &[u32],
     root: u32,
     taken: &mut [u32],
@@ -274,8 +263,7 @@ pub extern "C" fn frame_history_lists(
 }
 
 // How many entries the stretch by an amount has of the caller's own lists.
-#[unsafe(no_mangle)]
-pub extern "C" fn frame_history_stretch<'a>(
+pub fn frame_history_stretch<'a>(
     taken: &'a [u32],
     upcoming: &'a [u32],
     delta: i32,
@@ -294,8 +282,7 @@ pub extern "C" fn frame_history_stretch<'a>(
 }
 
 // The visible documents of a window with their depths: how many pairs are written, of two words each.
-#[unsafe(no_mangle)]
-pub extern "C" fn frame_history_outline(
+pub fn frame_history_outline(
     words: &[u32],
     root: u32,
     pairs: &mut [u32],
@@ -314,8 +301,7 @@ pub extern "C" fn frame_history_outline(
 }
 
 // Writes the saved form of a record: its length in bytes.
-#[unsafe(no_mangle)]
-pub extern "C" fn frame_history_save(words: &[u32], bytes: &mut [u8], length: &mut u32) -> u32
+pub fn frame_history_save(words: &[u32], bytes: &mut [u8], length: &mut u32) -> u32
     ensures { face (outcome (Call.Save words.now bytes.old)) (length.old ∷ [])
         ≡ record { number = result; outs = length.new ∷ []; lent = bytes.new ∷ [] } }
 {
@@ -329,8 +315,7 @@ pub extern "C" fn frame_history_save(words: &[u32], bytes: &mut [u8], length: &m
 }
 
 // Fills a record from bytes that Save wrote: how many rows it has.
-#[unsafe(no_mangle)]
-pub extern "C" fn frame_history_load(words: &mut [u32], bytes: &[u8], rows: &mut u32) -> u32
+pub fn frame_history_load(words: &mut [u32], bytes: &[u8], rows: &mut u32) -> u32
     ensures { face (outcome (Call.Load words.old bytes.now)) (rows.old ∷ [])
         ≡ record { number = result; outs = rows.new ∷ []; lent = words.new ∷ [] } }
 {
@@ -344,8 +329,7 @@ pub extern "C" fn frame_history_load(words: &mut [u32], bytes: &[u8], rows: &mut
 }
 
 // Fills a record from bytes of the old form: how many rows it has.
-#[unsafe(no_mangle)]
-pub extern "C" fn frame_history_load_old(words: &mut [u32], bytes: &[u8], rows: &mut u32) -> u32
+pub fn frame_history_load_old(words: &mut [u32], bytes: &[u8], rows: &mut u32) -> u32
     ensures { face (outcome (Call.LoadOld words.old bytes.now)) (rows.old ∷ [])
         ≡ record { number = result; outs = rows.new ∷ []; lent = words.new ∷ [] } }
 {
@@ -359,8 +343,7 @@ pub extern "C" fn frame_history_load_old(words: &mut [u32], bytes: &[u8], rows: 
 }
 
 // Whether Back and Forward would work in a saved window, by the contents of its bytes: its position and its steps.
-#[unsafe(no_mangle)]
-pub extern "C" fn frame_history_contents(bytes: &[u8], position: &mut u32, steps: &mut u32) -> u32
+pub fn frame_history_contents(bytes: &[u8], position: &mut u32, steps: &mut u32) -> u32
     ensures { face (outcome (Call.Contents bytes.now)) (position.old ∷ steps.old ∷ [])
         ≡ record { number = result; outs = position.new ∷ steps.new ∷ []; lent = [] } }
 {
@@ -375,8 +358,7 @@ pub extern "C" fn frame_history_contents(bytes: &[u8], position: &mut u32, steps
 }
 
 // The same of bytes of the old form.
-#[unsafe(no_mangle)]
-pub extern "C" fn frame_history_contents_old(
+pub fn frame_history_contents_old(
     bytes: &[u8],
     position: &mut u32,
     steps: &mut u32,
@@ -405,8 +387,7 @@ fn told_setting(answer: Setting) -> u32
 }
 
 // Sets that the page of a document places itself.
-#[unsafe(no_mangle)]
-pub extern "C" fn frame_history_place_itself(
+pub fn frame_history_place_itself(
     words: &[u32],
     places: &mut [u64],
     document: u32,
@@ -419,8 +400,7 @@ pub extern "C" fn frame_history_place_itself(
 }
 
 // Sets a document's place at a point.
-#[unsafe(no_mangle)]
-pub extern "C" fn frame_history_place_at(
+pub fn frame_history_place_at(
     words: &[u32],
     places: &mut [u64],
     document: u32,
@@ -455,8 +435,7 @@ fn told_place(answer: Placed, kind: &mut u32, x: &mut f64, y: &mut f64) -> u32
 }
 
 // A document's place: 0 where the page places itself, or 1 and the point.
-#[unsafe(no_mangle)]
-pub extern "C" fn frame_history_place(
+pub fn frame_history_place(
     words: &[u32],
     places: &[u64],
     document: u32,
@@ -472,8 +451,7 @@ pub extern "C" fn frame_history_place(
 }
 
 // A document's place at a page zoom.
-#[unsafe(no_mangle)]
-pub extern "C" fn frame_history_place_at_zoom(
+pub fn frame_history_place_at_zoom(
     words: &[u32],
     places: &[u64],
     document: u32,

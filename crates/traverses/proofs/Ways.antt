@@ -123,7 +123,7 @@ module _ (old : List ℕ) (a b : ℕ) (start : Start old a b) (new : List ℕ) (
   moved-table =
       let r = start.ready in
       let l = r.long in
-      let h = r.ranges in
+      let h = r.fits in
       ap table_of e ∙ table-written old (moved_to (table_of old) b) (omega arith) (omega (arith, at_length (steps_to (rows_of old) b) (rows_of old)))
 
   -- As many rows.

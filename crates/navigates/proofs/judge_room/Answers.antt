@@ -1,0 +1,12 @@
+-- The goals of `navigates::judge_room` that want a word.
+use Rattle.navigates.proofs.Judges.{room-full, room-used, room-left}
+use Rattle.navigates.proofs.judge_room.Goals as goal
+
+pub returns-then-filled : goal.returns-then-filled
+returns-then-filled c = room-full c.args.words.now _ c.if-filled.true
+
+pub returns-then-next_document-eq-NONE : goal.returns-then-next_document-eq-NONE
+returns-then-next_document-eq-NONE c = room-used c.args.words.now _ _ c.if-filled.false c.next_document.ensures c.if-next_document-eq-NONE.true
+
+pub returns : goal.returns
+returns c = room-left c.args.words.now _ _ c.if-filled.false c.next_document.ensures c.if-next_document-eq-NONE.false
