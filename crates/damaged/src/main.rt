@@ -10,40 +10,18 @@ ghost use Rattle.std.specs.Prelude.{◌<◌};
 use base::DocNo;
 use replaces::Replaced;
 use saved::Saving;
+use std::io;
 use told::Loading;
 
 // No parent.
 const NONE: u32 = 4294967295;
 
-// Writes text.
-fn say(text: &[u8]) {
-    io::write_all(1, text);
-}
-
-// Writes a number.
-fn say_number(n: u64) {
-    io::print_decimal(1, n);
-}
-
-// Writes a space and a byte as a number.
-fn say_byte(x: u8) {
-    say(b" ");
-    say_number(x as u64);
-}
-
-// Ends a line.
-fn end_line() {
-    say(b"\n");
-}
-
 // Writes bytes, each as a number.
-fn say_bytes(bytes: &[u8]) {
-    let mut i = 0;
-    while i < bytes.len() {
-        say_byte(bytes[i]);
-        i += 1;
+fn say_bytes(rt: &impl Print, bytes: &[u8]) -> io::Result<()> {
+    for byte in bytes {
+        print!(rt; " {byte}")?;
     }
-    end_line();
+    println!(rt; "")
 }
 
 // Document 01's record X.
@@ -70,51 +48,45 @@ struct Form {
 }
 
 // A record as saved.
-fn saved_of(name: &[u8], words: &[u32]) -> Form {
+fn saved_of(rt: &impl Print, name: &str, words: &[u32]) -> io::Result<Form> {
     let mut bytes = [0u8; 125];
     let mut len = 0;
-    say(name);
     match saved::save(words, &mut bytes) {
         Saving::Length(n) => {
-            say(b" has ");
-            say_number(n as u64);
-            say(b" bytes\n");
+            println!(rt; "{name} has {n} bytes")?;
             len = n;
         }
-        Saving::Refused(_) => say(b" is refused\n"),
+        Saving::Refused(_) => println!(rt; "{name} is refused")?,
     }
-    Form {
+    Ok(Form {
         bytes,
         len,
         old: false,
-    }
+    })
 }
 
 // Writes the first n bytes, where there are so many.
-fn say_first(bytes: &[u8], n: usize) {
+fn say_first(rt: &impl Print, bytes: &[u8], n: usize) -> io::Result<()> {
     if n <= bytes.len() {
-        say_bytes(&bytes[0..n]);
+        say_bytes(rt, &bytes[0..n])?;
     }
+    Ok(())
 }
 
 // Tells the bytes of a form.
-fn tell(f: Form) {
+fn tell(rt: &impl Print, f: Form) -> io::Result<()> {
     let bytes = f.bytes;
-    say_first(&bytes, f.len);
+    say_first(rt, &bytes, f.len)
 }
 
 // X with document 1 replaced, as saved.
-fn saved_renewed() -> Form {
+fn saved_renewed(rt: &impl Print) -> io::Result<Form> {
     let mut words = record_x();
     match replaces::replace(&mut words, DocNo(1)) {
-        Replaced::Arrived(d) => {
-            say(b"document 1 replaced by ");
-            say_number(d.0 as u64);
-            say(b"\n");
-        }
-        Replaced::Refused(_) => say(b"document 1 not replaced\n"),
+        Replaced::Arrived(d) => println!(rt; "document 1 replaced by {}", d.0)?,
+        Replaced::Refused(_) => println!(rt; "document 1 not replaced")?,
     }
-    saved_of(b"X with document 1 replaced", &words)
+    saved_of(rt, "X with document 1 replaced", &words)
 }
 
 // Where byte k of the old form stands in the new one, after so many bytes of contents: these are the same, and of each entry the document comes first.
@@ -137,10 +109,8 @@ fn byte_at(bytes: &[u8], at: usize) -> u8 {
 fn old_form(whole: Form, head: usize, len: usize) -> Form {
     let from = whole.bytes;
     let mut bytes = [0u8; 125];
-    let mut k = 0;
-    while k < 125 {
+    for k in 0..125 {
         bytes[k] = byte_at(&from, source(head, k));
-        k += 1;
     }
     Form {
         bytes,
@@ -151,14 +121,7 @@ fn old_form(whole: Form, head: usize, len: usize) -> Form {
 
 // Whether every word is 7.
 fn all_sevens(words: &[u32]) -> bool {
-    let mut i = 0;
-    while i < words.len() {
-        if words[i] != 7 {
-            return false;
-        }
-        i += 1;
-    }
-    true
+    words.iter().all(|word| *word == 7)
 }
 
 // Loads bytes by one call or the other.
@@ -170,38 +133,45 @@ fn load(old: bool, words: &mut [u32], bytes: &[u8]) -> Loading {
 }
 
 // Loads bytes over sevens, and tells the answer.
-fn load_over(name: &[u8], old: bool, words: &mut [u32], bytes: &[u8]) {
-    say(name);
-    say(b": ");
+fn load_over(
+    rt: &impl Print,
+    name: &str,
+    old: bool,
+    words: &mut [u32],
+    bytes: &[u8],
+) -> io::Result<()> {
     match load(old, words, bytes) {
-        Loading::Rows(n) => {
-            say_number(n as u64);
-            say(b" rows\n");
-        }
+        Loading::Rows(n) => println!(rt; "{name}: {n} rows"),
         Loading::Refused(r) => {
-            say(b"refused ");
-            say_number(base::refusal_number(r) as u64);
-            if all_sevens(words) {
-                say(b", record kept\n");
-            } else {
-                say(b", record changed\n");
-            }
+            let record = if all_sevens(words) { "kept" } else { "changed" };
+            println!(rt;
+                "{name}: refused {}, record {record}",
+                base::refusal_number(r)
+            )
         }
     }
 }
 
 // Loads the first n bytes, where there are so many.
-fn load_first(name: &[u8], old: bool, words: &mut [u32], bytes: &[u8], n: usize) {
+fn load_first(
+    rt: &impl Print,
+    name: &str,
+    old: bool,
+    words: &mut [u32],
+    bytes: &[u8],
+    n: usize,
+) -> io::Result<()> {
     if n <= bytes.len() {
-        load_over(name, old, words, &bytes[0..n]);
+        load_over(rt, name, old, words, &bytes[0..n])?;
     }
+    Ok(())
 }
 
 // Loads the first n bytes of a form into a record of 8 rows.
-fn cut(name: &[u8], f: Form, n: usize) {
+fn cut(rt: &impl Print, name: &str, f: Form, n: usize) -> io::Result<()> {
     let bytes = f.bytes;
     let mut words = [7u32; 35];
-    load_first(name, f.old, &mut words, &bytes, n);
+    load_first(rt, name, f.old, &mut words, &bytes, n)
 }
 
 // Puts a byte, where there is one.
@@ -212,140 +182,150 @@ fn put(bytes: &mut [u8], at: usize, v: u8) {
 }
 
 // Loads bytes with two of them changed.
-fn changed_twice(name: &[u8], f: Form, at: usize, v: u8, and: usize, w: u8) {
+fn changed_twice(
+    rt: &impl Print,
+    name: &str,
+    f: Form,
+    at: usize,
+    v: u8,
+    and: usize,
+    w: u8,
+) -> io::Result<()> {
     let mut bytes = f.bytes;
     put(&mut bytes, at, v);
     put(&mut bytes, and, w);
     let mut words = [7u32; 35];
-    load_first(name, f.old, &mut words, &bytes, f.len);
+    load_first(rt, name, f.old, &mut words, &bytes, f.len)
 }
 
 // Loads bytes with one of them changed.
-fn changed(name: &[u8], f: Form, at: usize, v: u8) {
-    changed_twice(name, f, at, v, at, v);
+fn changed(rt: &impl Print, name: &str, f: Form, at: usize, v: u8) -> io::Result<()> {
+    changed_twice(rt, name, f, at, v, at, v)
 }
 
 // Too few bytes, and too many.
-fn lengths(f: Form) {
+fn lengths(rt: &impl Print, f: Form) -> io::Result<()> {
     let n = f.len;
-    cut(b"whole", f, n);
-    cut(b"no bytes", f, 0);
-    cut(b"11 bytes", f, 11);
-    cut(b"12 bytes", f, 12);
+    cut(rt, "whole", f, n)?;
+    cut(rt, "no bytes", f, 0)?;
+    cut(rt, "11 bytes", f, 11)?;
+    cut(rt, "12 bytes", f, 12)?;
     if 4 <= n {
-        cut(b"4 bytes fewer", f, n - 4);
-        cut(b"a byte fewer", f, n - 1);
+        cut(rt, "4 bytes fewer", f, n - 4)?;
+        cut(rt, "a byte fewer", f, n - 1)?;
     }
     if n < 125 {
-        cut(b"a byte more", f, n + 1);
+        cut(rt, "a byte more", f, n + 1)?;
     }
+    Ok(())
 }
 
 // Counts that tell of another length, past 32 and 64 bits too.
-fn counts(f: Form) {
-    changed(b"no frame", f, 3, 0);
-    changed(b"five frames", f, 3, 5);
-    changed(b"2^28 frames more", f, 0, 16);
-    changed(b"2^31 frames more", f, 0, 128);
-    changed(b"a frame with no document", f, 23, 0);
-    changed(b"2^30 documents more", f, 20, 64);
-    changed_twice(b"2^32 bytes of documents", f, 20, 64, 36, 192);
+fn counts(rt: &impl Print, f: Form) -> io::Result<()> {
+    changed(rt, "no frame", f, 3, 0)?;
+    changed(rt, "five frames", f, 3, 5)?;
+    changed(rt, "2^28 frames more", f, 0, 16)?;
+    changed(rt, "2^31 frames more", f, 0, 128)?;
+    changed(rt, "a frame with no document", f, 23, 0)?;
+    changed(rt, "2^30 documents more", f, 20, 64)?;
+    changed_twice(rt, "2^32 bytes of documents", f, 20, 64, 36, 192)
 }
 
 // Frames that Save would not write so.
-fn frames(f: Form) {
-    changed_twice(b"frames out of order", f, 31, 2, 47, 1);
-    changed(b"one frame twice", f, 47, 1);
-    changed(b"shown place not below the count", f, 27, 1);
-    changed(b"a shown place past 2^24", f, 40, 1);
+fn frames(rt: &impl Print, f: Form) -> io::Result<()> {
+    changed_twice(rt, "frames out of order", f, 31, 2, 47, 1)?;
+    changed(rt, "one frame twice", f, 47, 1)?;
+    changed(rt, "shown place not below the count", f, 27, 1)?;
+    changed(rt, "a shown place past 2^24", f, 40, 1)
 }
 
 // Entries that Save would not write so, and two documents in another order, which it would.
-fn entries(f: Form) {
-    changed(b"a document of two frames", f, 103, 1);
-    changed_twice(b"a child before its parent", f, 87, 5, 95, 1);
-    changed_twice(b"row places out of order", f, 91, 5, 99, 1);
-    changed(b"a row place twice", f, 107, 1);
-    changed(b"a row place past the rows", f, 123, 6);
-    changed(b"a row place past 2^24", f, 120, 1);
-    changed_twice(b"documents out of order", f, 103, 4, 111, 2);
+fn entries(rt: &impl Print, f: Form) -> io::Result<()> {
+    changed(rt, "a document of two frames", f, 103, 1)?;
+    changed_twice(rt, "a child before its parent", f, 87, 5, 95, 1)?;
+    changed_twice(rt, "row places out of order", f, 91, 5, 99, 1)?;
+    changed(rt, "a row place twice", f, 107, 1)?;
+    changed(rt, "a row place past the rows", f, 123, 6)?;
+    changed(rt, "a row place past 2^24", f, 120, 1)?;
+    changed_twice(rt, "documents out of order", f, 103, 4, 111, 2)
 }
 
 // Documents that Save would not have written so.
-fn documents(f: Form) {
-    changed(b"a document of two frames", f, 91, 1);
-    changed_twice(b"documents out of order", f, 91, 4, 95, 2);
+fn documents(rt: &impl Print, f: Form) -> io::Result<()> {
+    changed(rt, "a document of two frames", f, 91, 1)?;
+    changed_twice(rt, "documents out of order", f, 91, 4, 95, 2)
 }
 
 // Bytes of the right shape that tell an unsound record, and two that tell a sound one.
-fn records(f: Form) {
-    changed(b"next document in use", f, 7, 5);
-    changed(b"next frame in use", f, 11, 3);
-    changed(b"a parent later than its child", f, 67, 4);
-    changed(b"a parent that is not there", f, 67, 9);
-    changed(b"a root with a parent", f, 16, 0);
-    changed_twice(b"5 shown while 4 is upcoming", f, 43, 1, 59, 0);
-    changed(b"another next document", f, 7, 9);
-    changed(b"5 shown", f, 43, 1);
+fn records(rt: &impl Print, f: Form) -> io::Result<()> {
+    changed(rt, "next document in use", f, 7, 5)?;
+    changed(rt, "next frame in use", f, 11, 3)?;
+    changed(rt, "a parent later than its child", f, 67, 4)?;
+    changed(rt, "a parent that is not there", f, 67, 9)?;
+    changed(rt, "a root with a parent", f, 16, 0)?;
+    changed_twice(rt, "5 shown while 4 is upcoming", f, 43, 1, 59, 0)?;
+    changed(rt, "another next document", f, 7, 9)?;
+    changed(rt, "5 shown", f, 43, 1)
 }
 
 // Records with too little room: 3 goes before 7, 1 before both.
-fn rooms(f: Form) {
+fn rooms(rt: &impl Print, f: Form) -> io::Result<()> {
     let bytes = f.bytes;
     let mut five = [7u32; 23];
-    load_first(b"room for five", f.old, &mut five, &bytes, f.len);
-    load_first(b"room for five, 99 bytes", f.old, &mut five, &bytes, 99);
+    load_first(rt, "room for five", f.old, &mut five, &bytes, f.len)?;
+    load_first(rt, "room for five, 99 bytes", f.old, &mut five, &bytes, 99)?;
     let mut six = [7u32; 6];
-    load_first(b"6 words", f.old, &mut six, &bytes, f.len);
-    load_first(b"6 words, no bytes", f.old, &mut six, &bytes, 0);
+    load_first(rt, "6 words", f.old, &mut six, &bytes, f.len)?;
+    load_first(rt, "6 words, no bytes", f.old, &mut six, &bytes, 0)?;
     let mut enough = [7u32; 27];
-    load_first(b"room for six", f.old, &mut enough, &bytes, f.len);
+    load_first(rt, "room for six", f.old, &mut enough, &bytes, f.len)
 }
 
 // What both forms have alike.
-fn either(f: Form) {
-    lengths(f);
-    counts(f);
-    frames(f);
-    records(f);
-    rooms(f);
+fn either(rt: &impl Print, f: Form) -> io::Result<()> {
+    lengths(rt, f)?;
+    counts(rt, f)?;
+    frames(rt, f)?;
+    records(rt, f)?;
+    rooms(rt, f)
 }
 
 // The bytes of one form, given to the other's call.
-fn other(name: &[u8], f: Form) {
+fn other(rt: &impl Print, name: &str, f: Form) -> io::Result<()> {
     let bytes = f.bytes;
     let mut words = [7u32; 35];
-    load_first(name, !f.old, &mut words, &bytes, f.len);
+    load_first(rt, name, !f.old, &mut words, &bytes, f.len)
 }
 
 // Loads bytes, saves the record that they tell, and tells the bytes.
-fn again(f: Form) {
+fn again(rt: &impl Print, f: Form) -> io::Result<()> {
     let bytes = f.bytes;
     let mut words = [7u32; 35];
-    load_first(b"loaded", f.old, &mut words, &bytes, f.len);
-    tell(saved_of(b"what was loaded", &words));
+    load_first(rt, "loaded", f.old, &mut words, &bytes, f.len)?;
+    let form = saved_of(rt, "what was loaded", &words)?;
+    tell(rt, form)
 }
 
-fn main() {
-    let whole = saved_of(b"X", &record_x());
-    tell(whole);
-    again(whole);
-    either(whole);
-    entries(whole);
-    other(b"to the old form's call", whole);
-    say(b"The old form\n");
+fn main(rt: HostRuntime) -> io::Result<()> {
+    let whole = saved_of(&rt, "X", &record_x())?;
+    tell(&rt, whole)?;
+    again(&rt, whole)?;
+    either(&rt, whole)?;
+    entries(&rt, whole)?;
+    other(&rt, "to the old form's call", whole)?;
+    println!(rt; "The old form")?;
     let old = old_form(whole, 76, 100);
-    tell(old);
-    again(old);
-    either(old);
-    documents(old);
-    other(b"to the new form's call", old);
-    let renewed = saved_renewed();
-    tell(renewed);
-    again(renewed);
-    other(b"to the old form's call", renewed);
-    let windows = saved_of(b"A record of two windows", &pair());
-    tell(windows);
-    again(windows);
-    cut(b"in the old form", old_form(windows, 60, 80), 80);
+    tell(&rt, old)?;
+    again(&rt, old)?;
+    either(&rt, old)?;
+    documents(&rt, old)?;
+    other(&rt, "to the new form's call", old)?;
+    let renewed = saved_renewed(&rt)?;
+    tell(&rt, renewed)?;
+    again(&rt, renewed)?;
+    other(&rt, "to the old form's call", renewed)?;
+    let windows = saved_of(&rt, "A record of two windows", &pair())?;
+    tell(&rt, windows)?;
+    again(&rt, windows)?;
+    cut(&rt, "in the old form", old_form(windows, 60, 80), 80)
 }
