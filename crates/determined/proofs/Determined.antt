@@ -4,7 +4,7 @@ use mathlib.Core.List.{List, [], ◌∷◌}
 use mathlib.Core.Path.{◌≡◌, ap, sym, ◌∙◌}
 use mathlib.Mathlib.Logic.Function.Defs.{Injective}
 use lib.ListN.{get_or}
-use Rattle.rules.specs.Calls.{Call, Answer, outcome}
+use Rattle.rules.specs.Calls.{Call, Answer}
 use Rattle.changes.specs.declared.ChangeRow.{ChangeRow}
 use Rattle.changes.specs.Changes.{plain}
 use Rattle.changes.proofs.Filling.{plain-same}

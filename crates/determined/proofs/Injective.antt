@@ -79,81 +79,85 @@ module _ {A : Type 0} where
   result_by given refused (Answer.gives values) = given values
   result_by given refused (Answer.refuses k carried) = refused (refusal_by k carried)
 
+  -- The result is the one that its answer is given for.
+  abbrev Back : (A → Answer) → (List ℕ → A) → (Refusal → A) → A → Type 0
+  Back is given refused r = result_by given refused (is r) ≡ r
+
   -- Where each result is the one that its answer is given for, no two have one answer.
   told_back : (is : A → Answer) (given : List ℕ → A) (refused : Refusal → A) → LeftInverse (result_by given refused) is → Injective is
   told_back is given refused = LeftInverse-Injective (result_by given refused) is
 
 -- So it is of each call: the result of the values, and of a refusal.
 pub fresh-injective : Injective fresh_is
-fresh-injective = told_back fresh_is (λ v. Freshens.Done) Freshens.Refused λ r. elim r [ Freshens.Done ↦ refl | Freshens.Refused k ↦ ap Freshens.Refused (refusal-back k) ]
+fresh-injective = told_back fresh_is (λ v. Freshens.Done) Freshens.Refused λ r. elim r as (λ k. Back fresh_is _ Freshens.Refused k) [ Freshens.Done ↦ refl | Freshens.Refused k ↦ ap Freshens.Refused (refusal-back k) ]
 
 pub opened-injective : Injective opened_is
 opened-injective =
     told_back opened_is (λ v. Opens.Numbers (record { 0 = get_or v 0 0 }) (record { 0 = get_or v 1 0 })) Opens.Refused
-    λ r. elim r [ Opens.Numbers d f ↦ refl | Opens.Refused k ↦ ap Opens.Refused (refusal-back k) ]
+    λ r. elim r as (λ k. Back opened_is _ Opens.Refused k) [ Opens.Numbers d f ↦ refl | Opens.Refused k ↦ ap Opens.Refused (refusal-back k) ]
 
 pub navigated-injective : Injective navigated_is
 navigated-injective =
     told_back navigated_is (λ v. Navigateds.Arrived (record { 0 = get_or v 0 0 })) Navigateds.Refused
-    λ r. elim r [ Navigateds.Arrived d ↦ refl | Navigateds.Refused k ↦ ap Navigateds.Refused (refusal-back k) ]
+    λ r. elim r as (λ k. Back navigated_is _ Navigateds.Refused k) [ Navigateds.Arrived d ↦ refl | Navigateds.Refused k ↦ ap Navigateds.Refused (refusal-back k) ]
 
 pub dropped-injective : Injective dropped_is
 dropped-injective =
     told_back dropped_is (λ v. Droppeds.Rows (get_or v 0 0)) Droppeds.Refused
-    λ r. elim r [ Droppeds.Rows n ↦ refl | Droppeds.Refused k ↦ ap Droppeds.Refused (refusal-back k) ]
+    λ r. elim r as (λ k. Back dropped_is _ Droppeds.Refused k) [ Droppeds.Rows n ↦ refl | Droppeds.Refused k ↦ ap Droppeds.Refused (refusal-back k) ]
 
 pub replaced-injective : Injective replaced_is
 replaced-injective =
     told_back replaced_is (λ v. Replaceds.Arrived (record { 0 = get_or v 0 0 })) Replaceds.Refused
-    λ r. elim r [ Replaceds.Arrived d ↦ refl | Replaceds.Refused k ↦ ap Replaceds.Refused (refusal-back k) ]
+    λ r. elim r as (λ k. Back replaced_is _ Replaceds.Refused k) [ Replaceds.Arrived d ↦ refl | Replaceds.Refused k ↦ ap Replaceds.Refused (refusal-back k) ]
 
 pub traversed-injective : Injective traversed_is
 traversed-injective =
     told_back traversed_is (λ v. Traverseds.Changes (get_or v 0 0)) Traverseds.Refused
-    λ r. elim r [ Traverseds.Changes n ↦ refl | Traverseds.Refused k ↦ ap Traverseds.Refused (refusal-back k) ]
+    λ r. elim r as (λ k. Back traversed_is _ Traverseds.Refused k) [ Traverseds.Changes n ↦ refl | Traverseds.Refused k ↦ ap Traverseds.Refused (refusal-back k) ]
 
 pub standing-injective : Injective standing_is
 standing-injective =
     told_back standing_is (λ v. Standings.At (get_or v 0 0) (get_or v 1 0) (get_or v 2 0)) Standings.Refused
-    λ r. elim r [ Standings.At p s l ↦ refl | Standings.Refused k ↦ ap Standings.Refused (refusal-back k) ]
+    λ r. elim r as (λ k. Back standing_is _ Standings.Refused k) [ Standings.At p s l ↦ refl | Standings.Refused k ↦ ap Standings.Refused (refusal-back k) ]
 
 pub sight-injective : Injective sight_is
 sight-injective =
     told_back sight_is (λ v. cond (eqb (get_or v 0 0) 1) (Sights.Visible (get_or v 2 0)) (Sights.Hidden (record { 0 = get_or v 1 0 }) (get_or v 2 0))) Sights.Refused
-    λ r. elim r [ Sights.Visible n ↦ refl | Sights.Hidden d n ↦ refl | Sights.Refused k ↦ ap Sights.Refused (refusal-back k) ]
+    λ r. elim r as (λ k. Back sight_is _ Sights.Refused k) [ Sights.Visible n ↦ refl | Sights.Hidden d n ↦ refl | Sights.Refused k ↦ ap Sights.Refused (refusal-back k) ]
 
 pub listed-injective : Injective listed_is
 listed-injective =
     told_back listed_is (λ v. Lists.Counts (get_or v 0 0) (get_or v 1 0)) Lists.Refused
-    λ r. elim r [ Lists.Counts t u ↦ refl | Lists.Refused k ↦ ap Lists.Refused (refusal-back k) ]
+    λ r. elim r as (λ k. Back listed_is _ Lists.Refused k) [ Lists.Counts t u ↦ refl | Lists.Refused k ↦ ap Lists.Refused (refusal-back k) ]
 
 pub stretch-injective : Injective stretch_is
 stretch-injective =
     told_back stretch_is (λ v. Stretches.Count (get_or v 0 0)) Stretches.Refused
-    λ r. elim r [ Stretches.Count n ↦ refl | Stretches.Refused k ↦ ap Stretches.Refused (refusal-back k) ]
+    λ r. elim r as (λ k. Back stretch_is _ Stretches.Refused k) [ Stretches.Count n ↦ refl | Stretches.Refused k ↦ ap Stretches.Refused (refusal-back k) ]
 
 pub outlined-injective : Injective outlined_is
 outlined-injective =
     told_back outlined_is (λ v. Outlines.Pairs (get_or v 0 0)) Outlines.Refused
-    λ r. elim r [ Outlines.Pairs n ↦ refl | Outlines.Refused k ↦ ap Outlines.Refused (refusal-back k) ]
+    λ r. elim r as (λ k. Back outlined_is _ Outlines.Refused k) [ Outlines.Pairs n ↦ refl | Outlines.Refused k ↦ ap Outlines.Refused (refusal-back k) ]
 
 pub saving-injective : Injective saving_is
 saving-injective =
     told_back saving_is (λ v. Savings.Length (get_or v 0 0)) Savings.Refused
-    λ r. elim r [ Savings.Length n ↦ refl | Savings.Refused k ↦ ap Savings.Refused (refusal-back k) ]
+    λ r. elim r as (λ k. Back saving_is _ Savings.Refused k) [ Savings.Length n ↦ refl | Savings.Refused k ↦ ap Savings.Refused (refusal-back k) ]
 
 pub loading-injective : Injective loading_is
 loading-injective =
     told_back loading_is (λ v. Loadings.Rows (get_or v 0 0)) Loadings.Refused
-    λ r. elim r [ Loadings.Rows n ↦ refl | Loadings.Refused k ↦ ap Loadings.Refused (refusal-back k) ]
+    λ r. elim r as (λ k. Back loading_is _ Loadings.Refused k) [ Loadings.Rows n ↦ refl | Loadings.Refused k ↦ ap Loadings.Refused (refusal-back k) ]
 
 pub told-injective : Injective told_is
 told-injective =
     told_back told_is (λ v. Tolds.At (get_or v 0 0) (get_or v 1 0)) Tolds.Refused
-    λ r. elim r [ Tolds.At p s ↦ refl | Tolds.Refused k ↦ ap Tolds.Refused (refusal-back k) ]
+    λ r. elim r as (λ k. Back told_is _ Tolds.Refused k) [ Tolds.At p s ↦ refl | Tolds.Refused k ↦ ap Tolds.Refused (refusal-back k) ]
 
 pub setting-injective : Injective setting_is
-setting-injective = told_back setting_is (λ v. Settings.Done) Settings.Refused λ r. elim r [ Settings.Done ↦ refl | Settings.Refused k ↦ ap Settings.Refused (refusal-back k) ]
+setting-injective = told_back setting_is (λ v. Settings.Done) Settings.Refused λ r. elim r as (λ k. Back setting_is _ Settings.Refused k) [ Settings.Done ↦ refl | Settings.Refused k ↦ ap Settings.Refused (refusal-back k) ]
 
 -- The place that values are given for, and so the one that an answer is.
 abbrev place_by : List ℕ → Placed
@@ -178,7 +182,7 @@ pub reply-injective : Injective reply_is
 unfolding reply_by
 reply-injective =
     LeftInverse-Injective reply_by reply_is
-    λ r. elim r [ Replies.Ok v p s ↦ refl | Replies.Tab d f p s ↦ refl | Replies.No k p s ↦ ap (λ x. Replies.No x p s) (refusal-back k) | Replies.Bad ↦ refl ]
+    λ r. elim r as (λ k. reply_by (reply_is k) ≡ k) [ Replies.Ok v p s ↦ refl | Replies.Tab d f p s ↦ refl | Replies.No k p s ↦ ap (λ x. Replies.No x p s) (refusal-back k) | Replies.Bad ↦ refl ]
 
 -- The command that asks this; no two ask the same.
 read_by : Command → Read
@@ -194,4 +198,4 @@ pub command-injective : Injective command_is
 unfolding read_by
 command-injective =
     LeftInverse-Injective read_by command_is
-    λ r. elim r [ Reads.Open d ↦ refl | Reads.Nav d ↦ refl | Reads.Go r δ ↦ refl | Reads.Drop f ↦ refl | Reads.Replace d ↦ refl | Reads.Tab ↦ refl | Reads.Bad ↦ refl ]
+    λ r. elim r as (λ k. read_by (command_is k) ≡ k) [ Reads.Open d ↦ refl | Reads.Nav d ↦ refl | Reads.Go r δ ↦ refl | Reads.Drop f ↦ refl | Reads.Replace d ↦ refl | Reads.Tab ↦ refl | Reads.Bad ↦ refl ]

@@ -1,9 +1,9 @@
 -- Root frames: what the tests of a row tell, and of a record of one window which frame is one. Assumes nothing.
 use Prim.Native.Nat.{ℕ}
-use mathlib.Core.Bool.{true, not, ◌&&◌, and-eq-true_iff, false}
+use mathlib.Core.Bool.{not, ◌&&◌, and-eq-true_iff, false}
 use mathlib.Core.List.{List}
 use mathlib.Core.Logic.{⊎_elim}
-use mathlib.Core.Path.{◌≡◌, ap, ap₂, ◌∙◌, refl}
+use mathlib.Core.Path.{◌≡◌, ap₂, ◌∙◌, refl}
 use native.Mathlib.Nat.{not-suc-le-zero}
 use native.Mathlib.Omega.{arith}
 use lib.Dec.{eqb}

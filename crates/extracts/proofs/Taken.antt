@@ -1,18 +1,18 @@
 -- A window's rows gathered, and taken out into zero words. Assumes nothing.
-use Prim.Native.Nat.{ℕ, suc, ◌+◌, ◌-◌, ◌*◌, ◌≤◌, ◌<◌}
-use mathlib.Core.Bool.{Bool, true, false, So, cond, and-eq-true_iff}
+use Prim.Native.Nat.{ℕ, suc, ◌+◌, ◌-◌, ◌*◌, ◌≤◌}
+use mathlib.Core.Bool.{Bool, true, false, So}
 use mathlib.Core.List.{List, [], ◌∷◌, ◌++◌, flat_map, append-nil}
 use mathlib.Core.Path.{◌≡◌, refl, sym, ap, ap₂, subst, ◌∙◌}
 use native.Mathlib.Numerals.{add-one}
 use native.Mathlib.Omega.{arith}
-use lib.Dec.{eqb, ltb}
+use lib.Dec.{eqb}
 use lib.ListN.{length, replicate, length-replicate}
 use borrow.Author.Tests.{eqb-true, eq-eqb, le-ltb}
-use Rattle.rules.specs.Below.{count, earliest, gather}
+use Rattle.rules.specs.Below.{count, gather}
 use Rattle.rules.specs.Rows.{Row, Table, none, row_at, doc_at, frame_at, parent_at, shown_at}
-use Rattle.rules.specs.Words.{put, capacity, words_of_row, words_of, table_of, rows_of, written}
+use Rattle.rules.specs.Words.{put, capacity, words_of_row, table_of, rows_of, written}
 use Rattle.rules.specs.Sound.{Sound, SoundTable}
-use Rattle.rules.specs.Windows.{in_window, window_rows, window_of}
+use Rattle.rules.specs.Windows.{in_window, window_rows}
 use Rattle.rules.specs.Calls.{window_in}
 use Rattle.laws.proofs.Tests.{test, clash, count_yes, count_no, count_most, length-gather}
 use Rattle.laws.proofs.Tree.{TreeOf, tree_of}
@@ -24,12 +24,10 @@ use Rattle.laws.proofs.Words.{length-words, table-written, length-written, writt
 use Rattle.laws.proofs.Appended.{words_of-shape, words_snoc}
 use Rattle.laws.proofs.Rooms.{written-zeros}
 use Rattle.windows.proofs.Roots.{root-row, root-kin}
-use Rattle.members.specs.Members.{Kin, Sided}
-use Rattle.members.specs.declared.Known.{Known}
-use Rattle.members.specs.declared.Member.{Member}
+use Rattle.members.specs.Members.{Kin}
 use Rattle.sound.specs.Check.{Examined}
 use Rattle.sound.proofs.Checks.{examined-sound, examined-fits}
-use Rattle.extracts.specs.Windows.{other_root, FirstOther, Starts, Gathers, Gathered}
+use Rattle.extracts.specs.Windows.{other_root, Starts, Gathers, Gathered}
 
 -- WHICH ROWS
 

@@ -109,12 +109,7 @@ pub fn frame_history_navigate(
 }
 
 // Takes a frame out, with all beneath it: how many rows went.
-pub fn frame_history_drop(
-    words: &mut [u32],
-    frame: u32,
-    removed: &mut u32,
-    hiding: &mut u32,
-) -> u32
+pub fn frame_history_drop(words: &mut [u32], frame: u32, removed: &mut u32, hiding: &mut u32) -> u32
     ensures { hiding_face (outcome (Call.Drop words.old frame)) (removed.old ∷ []) hiding.old
         ≡ record { seen = record { number = result; outs = removed.new ∷ []; lent = words.new ∷ [] }; hiding = hiding.new } }
 {
@@ -282,12 +277,7 @@ pub fn frame_history_stretch<'a>(
 }
 
 // The visible documents of a window with their depths: how many pairs are written, of two words each.
-pub fn frame_history_outline(
-    words: &[u32],
-    root: u32,
-    pairs: &mut [u32],
-    count: &mut u32,
-) -> u32
+pub fn frame_history_outline(words: &[u32], root: u32, pairs: &mut [u32], count: &mut u32) -> u32
     ensures { face (outcome (Call.Outline words.now root pairs.old)) (count.old ∷ [])
         ≡ record { number = result; outs = count.new ∷ []; lent = pairs.new ∷ [] } }
 {
@@ -358,11 +348,7 @@ pub fn frame_history_contents(bytes: &[u8], position: &mut u32, steps: &mut u32)
 }
 
 // The same of bytes of the old form.
-pub fn frame_history_contents_old(
-    bytes: &[u8],
-    position: &mut u32,
-    steps: &mut u32,
-) -> u32
+pub fn frame_history_contents_old(bytes: &[u8], position: &mut u32, steps: &mut u32) -> u32
     ensures { face (outcome (Call.ContentsOld bytes.now)) (position.old ∷ steps.old ∷ [])
         ≡ record { number = result; outs = position.new ∷ steps.new ∷ []; lent = [] } }
 {
@@ -387,11 +373,7 @@ fn told_setting(answer: Setting) -> u32
 }
 
 // Sets that the page of a document places itself.
-pub fn frame_history_place_itself(
-    words: &[u32],
-    places: &mut [u64],
-    document: u32,
-) -> u32
+pub fn frame_history_place_itself(words: &[u32], places: &mut [u64], document: u32) -> u32
     ensures { face (outcome (Call.SetPlace words.now places.old document Paper.itself)) []
         ≡ record { number = result; outs = []; lent = places.new ∷ [] } }
 {
@@ -400,12 +382,7 @@ pub fn frame_history_place_itself(
 }
 
 // Sets a document's place at a point.
-pub fn frame_history_place_at(
-    words: &[u32],
-    places: &mut [u64],
-    document: u32,
-    point: Point,
-) -> u32
+pub fn frame_history_place_at(words: &[u32], places: &mut [u64], document: u32, point: Point) -> u32
     ensures { face (outcome (Call.SetPlace words.now places.old document (Paper.at point.x point.y))) []
         ≡ record { number = result; outs = []; lent = places.new ∷ [] } }
 {

@@ -10,7 +10,6 @@ use lib.ListN.{length, get_or}
 use borrow.Author.Tests.{lt-ltb, le-ltb}
 use Rattle.base.specs.declared.Refusal.{Refusal}
 use Rattle.base.specs.Numbers.{number_of, carried_by}
-use Rattle.rules.specs.Steps.{position, steps}
 use Rattle.rules.specs.Windows.{is_root}
 use Rattle.rules.specs.Words.{put, rows_of}
 use Rattle.rules.specs.Asks.{taken_list, upcoming_list}

@@ -1,11 +1,10 @@
 -- A line that is too long is bad, however much of it is kept: readers that stand alike print the same. Assumes nothing.
-use Prim.Native.Nat.{ℕ, ◌+◌, ◌-◌, ◌≤◌, ◌<◌, min, max}
-use mathlib.Core.Bool.{Bool, true, false, cond}
+use Prim.Native.Nat.{ℕ, ◌+◌, ◌-◌, ◌≤◌, ◌<◌}
 use mathlib.Core.List.{List, [], ◌∷◌, ◌++◌}
-use mathlib.Core.Logic.{◌⊎◌, inl, inr, ⊎_elim}
+use mathlib.Core.Logic.{inl, inr, ⊎_elim}
 use mathlib.Core.Path.{◌≡◌, refl, sym, ap, ◌∙◌, subst}
 use native.Mathlib.Omega.{arith}
-use lib.Dec.{eqb, ltb}
+use lib.Dec.{eqb}
 use lib.ListN.{length, take, drop, length-append, length-take, take-append-drop}
 use lib.Seq.{sets-eq, take_all, take_at, take-append_seam, take-append-add}
 use borrow.Author.Tests.{lt-ltb}
@@ -14,7 +13,7 @@ use Rattle.laws.proofs.Tests.{test, by-lt}
 use Rattle.laws.proofs.Writes.{put-put, length-put}
 use Rattle.lines.specs.Lines.{parse}
 use Rattle.lines.specs.Reply.{Said, answer_text}
-use Rattle.turns.specs.Turns.{Turned, turned}
+use Rattle.turns.specs.Turns.{turned}
 use Rattle.texts.specs.Cuts.{grown}
 use Rattle.texts.specs.Feeds.{Reader, longer, onward, read_by, printed_by, Alike, Same}
 use Rattle.texts.proofs.Cutting.{put-out}

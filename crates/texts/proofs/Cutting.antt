@@ -1,6 +1,6 @@
 -- Reading a line byte by byte. Assumes nothing.
 use Prim.Native.Nat.{ℕ, suc, ◌+◌, ◌≤◌, ◌<◌, min, max}
-use mathlib.Core.Bool.{Bool, true, false}
+use mathlib.Core.Bool.{true, false}
 use mathlib.Core.List.{List, [], ◌∷◌}
 use mathlib.Core.Path.{◌≡◌, refl, sym, ap, ◌∙◌}
 use native.Mathlib.Numerals.{add-one}
@@ -8,12 +8,11 @@ use native.Mathlib.Omega.{arith}
 use lib.Dec.{eqb}
 use lib.ListN.{length, get_or, set, drop, length-set, drop_of_length-le}
 use lib.Seq.{drop-cons, set_out}
-use borrow.Author.Tests.{eq-eqb, ne_eqb}
+use borrow.Author.Tests.{ne_eqb}
 use Rattle.rules.specs.Rows.{flag}
 use Rattle.rules.specs.Words.{put}
 use Rattle.laws.proofs.Tests.{by-lt}
 use Rattle.texts.specs.Cuts.{line_in, ends?, grown, cut_of, Cuts}
-use Rattle.texts.specs.declared.Cut.{Cut}
 
 -- Past the end of a run nothing is put.
 pub put-out : (vs l : List ℕ) (i : ℕ) → length l ≤ i → put l i vs ≡ l

@@ -1,10 +1,10 @@
 -- A text fed in any parts and finished prints what the whole text prints. Assumes nothing.
-use Prim.Native.Nat.{ℕ, ◌+◌, ◌*◌, ◌≤◌}
+use Prim.Native.Nat.{ℕ, ◌+◌, ◌*◌}
 use mathlib.Core.List.{List, [], ◌∷◌, ◌++◌, append-nil}
 use mathlib.Core.Logic.{⊎_elim}
 use mathlib.Core.Path.{◌≡◌, refl, sym, ap, ◌∙◌}
 use native.Mathlib.Omega.{arith}
-use lib.ListN.{length, get_or, take, replicate}
+use lib.ListN.{get_or, take, replicate}
 use Rattle.rules.specs.Words.{put}
 use Rattle.rules.specs.Calls.{Call, outcome}
 use Rattle.lines.specs.Reply.{answer_text}

@@ -1,5 +1,5 @@
 -- Where a line ends, and what is kept of it. Definitions.
-use Rattle.std.specs.Prelude.{ℕ, ◌+◌, min, max, Bool, false, true, cond, List, [], ◌∷◌, ◌++◌, eqb, length, drop, ◌≡◌}
+use Rattle.std.specs.Prelude.{ℕ, ◌+◌, min, max, Bool, false, true, cond, List, [], ◌∷◌, eqb, length, drop, ◌≡◌}
 use Rattle.rules.specs.Rows.{flag}
 use Rattle.rules.specs.Words.{put}
 use Rattle.texts.specs.declared.Cut.{Cut}

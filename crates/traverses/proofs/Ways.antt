@@ -13,7 +13,7 @@ use Rattle.base.specs.declared.Refusal.{Refusal}
 use Rattle.base.specs.declared.Refusal.TheVariants.{ShortBuffer, Beyond, NoRoot}
 use Rattle.rules.specs.Below.{some_below, count, rising}
 use Rattle.rules.specs.Rows.{Row, Table, none, doc_at, frame_at, is_frame}
-use Rattle.rules.specs.Steps.{step, position, steps}
+use Rattle.rules.specs.Steps.{step, steps}
 use Rattle.rules.specs.Windows.{is_root}
 use Rattle.rules.specs.Moves.{walked, traversed, frames, shown_doc, change_row, changes}
 use Rattle.rules.specs.Words.{put, table_of, rows_of, written}

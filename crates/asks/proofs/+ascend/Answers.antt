@@ -1,7 +1,6 @@
 -- The goals of `asks::ascend` that want a word.
 use mathlib.Core.Path.{sym, ◌∙◌}
 use native.Mathlib.Omega.{arith}
-use borrow.Author.Rules.{rules}
 use Rattle.rules.specs.Words.{rows_of}
 use Rattle.reads.proofs.Scans.{found-lower}
 use Rattle.asks.proofs.Climbs.{hidden-ends, root_ends, climb-goes, lost-ends, coded-document, coded-nobody, coded-further, coded-lost, link_fits}

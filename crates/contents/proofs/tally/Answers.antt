@@ -1,5 +1,4 @@
 -- The goals of `contents::tally` that want a word.
-use Prim.Native.Nat.{◌-◌}
 use native.Mathlib.Omega.{arith}
 use Rattle.contents.proofs.Summing.{summed-none, tallied-wrong, not-few, summed-more}
 use Rattle.contents.proofs.tally.Goals as goal

@@ -1,5 +1,4 @@
 -- The goals of `drops::close_gaps` that want a word.
-use Prim.Native.Nat.{◌-◌}
 use mathlib.Core.Path.{ap, ◌∙◌}
 use native.Mathlib.Omega.{arith}
 use lib.Dec.{eqb}

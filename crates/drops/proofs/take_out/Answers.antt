@@ -26,6 +26,6 @@ overflow_cast-result c = record { fits = omega (arith, end-asks (in_frame (rows_
 
 pub returns : goal.returns
 returns c = (
-      ap₂ (λ x y. x - y) c.row_count-n.ensures c.close_gaps-k.ensures.count-is,
-      ended-out (in_frame (rows_of c.args.words.now) c.args.frame.0) c.args.words.now (examined-sound _ c.requires.0) (examined-long _ c.requires.0) _ _ _ c.close_gaps-k.ensures c.row_count-n.ensures _ _ _ c.next_document-next.ensures c.next_frame_number-top.ensures c.end_rows.ensures,
-    )
+  ap₂ (λ x y. x - y) c.row_count-n.ensures c.close_gaps-k.ensures.count-is,
+  ended-out (in_frame (rows_of c.args.words.now) c.args.frame.0) c.args.words.now (examined-sound _ c.requires.0) (examined-long _ c.requires.0) _ _ _ c.close_gaps-k.ensures c.row_count-n.ensures _ _ _ c.next_document-next.ensures c.next_frame_number-top.ensures c.end_rows.ensures,
+)

@@ -1,5 +1,4 @@
 -- The goals of `extracts::first_other` that want a word.
-use Prim.Native.Nat.{◌-◌}
 use mathlib.Core.Path.{ap, ◌∙◌}
 use native.Mathlib.Omega.{arith}
 use Rattle.rules.specs.Below.{earliest}

@@ -1,5 +1,5 @@
 -- The goals of `extracts::gather_rows` that want a word.
-use Prim.Native.Nat.{◌-◌, ◌≤◌}
+use Prim.Native.Nat.{◌≤◌}
 use mathlib.Core.Path.{sym, subst}
 use native.Mathlib.Omega.{arith}
 use Rattle.rules.specs.Rows.{none}
@@ -21,9 +21,9 @@ belongs_past-m-requires c = let w : (table_of c.args.words.now).next_doc ≤ non
 
 pub gather_row-k-requires : goal.gather_row-k-requires
 gather_row-k-requires c = (
-      record { fits = examined-fits _ c.requires.0; below = omega (arith, c.row_count-n.ensures) },
-      omega (arith, examined-fits c.args.words.now c.requires.0, c.row_count-n.ensures, gathered-long _ (rows_of c.args.words.now) _ _ _ c.loop-i.invariant.1, gathered-few _ (rows_of c.args.words.now) _ _ _ c.loop-i.invariant.1),
-    )
+  record { fits = examined-fits _ c.requires.0; below = omega (arith, c.row_count-n.ensures) },
+  omega (arith, examined-fits c.args.words.now c.requires.0, c.row_count-n.ensures, gathered-long _ (rows_of c.args.words.now) _ _ _ c.loop-i.invariant.1, gathered-few _ (rows_of c.args.words.now) _ _ _ c.loop-i.invariant.1),
+)
 
 pub loop-i-preserved : goal.loop-i-preserved
 loop-i-preserved c = (omega arith, gathered-more _ (rows_of c.args.words.now) _ _ _ _ _ _ c.belongs_past-m.ensures.inside_is c.loop-i.invariant.1 c.gather_row-k.ensures, c.belongs_past-m.ensures.recalls)

@@ -1,5 +1,4 @@
 -- The goals of `extracts::has_root` that want a word.
-use Prim.Native.Nat.{◌-◌}
 use mathlib.Core.Path.{ap, ◌∙◌}
 use native.Mathlib.Omega.{arith}
 use Rattle.rules.specs.Below.{some_below}

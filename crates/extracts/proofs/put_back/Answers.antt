@@ -1,5 +1,4 @@
 -- The goals of `extracts::put_back` that want a word.
-use Prim.Native.Nat.{◌-◌}
 use native.Mathlib.Omega.{arith}
 use Rattle.extracts.proofs.Returned.{walk-starts, walk_more, returning-starts, returning-more, returning-ends}
 use Rattle.extracts.proofs.put_back.Goals as goal
@@ -9,10 +8,10 @@ loop-i-init c = (omega arith, walk-starts _ _, λ r h. returning-starts _ r _ h)
 
 pub loop-i-preserved : goal.loop-i-preserved
 loop-i-preserved c = (
-      omega arith,
-      walk_more c.args.words.now c.args.own.now _ _ _ _ _ c.loop-i.invariant.1 c.give_flag-k.ensures (omega (arith, c.row_count-n.ensures)),
-      λ r h. returning-more c.args.words.now r c.args.own.now h _ _ _ _ _ (c.loop-i.invariant.2 r h) (omega (arith, c.row_count-n.ensures)) c.give_flag-k.ensures,
-    )
+  omega arith,
+  walk_more c.args.words.now c.args.own.now _ _ _ _ _ c.loop-i.invariant.1 c.give_flag-k.ensures (omega (arith, c.row_count-n.ensures)),
+  λ r h. returning-more c.args.words.now r c.args.own.now h _ _ _ _ _ (c.loop-i.invariant.2 r h) (omega (arith, c.row_count-n.ensures)) c.give_flag-k.ensures,
+)
 
 pub returns : goal.returns
 returns c = λ r h. returning-ends c.args.words.now r c.args.own.now h _ _ _ (c.loop-i.invariant.2 r h) (omega (arith, c.loop-i.invariant.0, c.row_count-n.ensures)) (omega (arith, c.loop-i-test.false, c.row_count-n.ensures))

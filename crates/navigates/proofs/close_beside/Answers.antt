@@ -1,5 +1,4 @@
 -- The goals of `navigates::close_beside` that want a word.
-use Prim.Native.Nat.{◌-◌}
 use mathlib.Core.Path.{refl}
 use native.Mathlib.Omega.{arith}
 use lib.ListN.{length}

@@ -1,5 +1,4 @@
 -- The goals of `navigates::close_gaps` that want a word.
-use Prim.Native.Nat.{◌-◌}
 use native.Mathlib.Omega.{arith}
 use Rattle.packs.proofs.Gaps.{gaps-start, gaps-end}
 use Rattle.navigates.proofs.Gaps.{turn-within, turn-done}

@@ -1,5 +1,4 @@
 -- The goals of `navigates::first_gap` that want a word.
-use Prim.Native.Nat.{◌-◌}
 use mathlib.Core.Path.{◌∙◌}
 use native.Mathlib.Omega.{arith}
 use Rattle.laws.proofs.Loops.{some_more, first_found, first_done}

@@ -1,5 +1,4 @@
 -- The goals of `places::are_fine` that want a word.
-use Prim.Native.Nat.{◌-◌}
 use native.Mathlib.Omega.{arith}
 use Rattle.laws.proofs.Loops.{loops}
 use Rattle.places.proofs.Store.{reaches-none, fine-fails, fine-done}

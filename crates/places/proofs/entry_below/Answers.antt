@@ -1,5 +1,4 @@
 -- The goals of `places::entry_below` that want a word.
-use Prim.Native.Nat.{◌-◌}
 use Rattle.laws.proofs.Loops.{loops}
 use Rattle.places.proofs.entry_below.Goals as goal
 

@@ -1,5 +1,4 @@
 -- The goals of `places::first_gone` that want a word.
-use Prim.Native.Nat.{◌-◌}
 use native.Mathlib.Omega.{arith}
 use Rattle.rules.specs.Words.{rows_of}
 use Rattle.laws.proofs.Loops.{loops}

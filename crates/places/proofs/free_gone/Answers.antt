@@ -1,5 +1,4 @@
 -- The goals of `places::free_gone` that want a word.
-use Prim.Native.Nat.{◌-◌}
 use native.Mathlib.Omega.{arith}
 use Rattle.places.proofs.Freeing.{freed-start, freed-next}
 use Rattle.places.proofs.free_gone.Goals as goal
