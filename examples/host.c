@@ -10,7 +10,7 @@
 
    A list of saved windows greys Back and Forward by the contents of the saved bytes, before any of them is loaded.
 
-   Link with libframe_history.a, which `rt staticlib frame_history` writes. */
+   Link with libframe_history.a, which `./library` writes. */
 #include "frame_history.h"
 #include <stdio.h>
 

@@ -1,5 +1,5 @@
 /* Runs calls of the library's archive that are asked for on standard input, and answers on standard output.
-   No headers: the kit's own compiler builds it on either machine.
+   No headers: the kit's own compiler builds it.
 
    A request is HEAD words, then the lent runs: words, first, second, places, bytes (padded with zeros to whole words).
      0 call   1 number   2 how the runs lie   3 guard word   4 5 6 the out words' earlier values
