@@ -1,7 +1,6 @@
 -- The paper's number of each refusal (document 01, "Nine ways to say no"; document 02, L1: "10 for the root frame"; L5: 11, 12 and 15; L10: 13), and what it carries.
-use Rattle.std.specs.Prelude.{ℕ, ◌<◌, List, [], ◌∷◌}
-use Rattle.base.specs.declared.Carried.{Carried}
-use Rattle.base.specs.declared.Carried.TheVariants.{Nothing, Document}
+use Rattle.std.specs.Prelude.{ℕ, ◌≡◌, ◌<◌, List, [], ◌∷◌, Option, None, Some}
+use Rattle.base.specs.declared.DocNo.{DocNo}
 use Rattle.base.specs.declared.Refusal.{Refusal}
 use Rattle.base.specs.declared.Refusal.TheVariants.{ShortRecord, Unsound, NotSaved, Absent, Hidden, Beyond, Full, UsedUp, ShortBuffer, RootFrame, NotFinite, NoEntry, NoRoot, BadPlaces}
 
@@ -21,6 +20,10 @@ number_of NoEntry = 12
 number_of NoRoot = 13
 number_of BadPlaces = 15
 
+-- What a number says that stands for a refusal.
+abbrev pub IsNumberOf : Refusal → ℕ → Type 0
+IsNumberOf r n = n ≡ number_of r
+
 -- "Refusal 5 of opening, navigating and removal carries that number too" (document 02, L4)
 abbrev pub carried_by : Refusal → List ℕ
 carried_by ShortRecord = []
@@ -39,9 +42,9 @@ carried_by NoRoot = []
 carried_by BadPlaces = []
 
 -- The values that stand for what is carried.
-abbrev pub carried_is : Carried → List ℕ
-carried_is Nothing = []
-carried_is (Document d) = d.0 ∷ []
+abbrev pub carried_is : Option DocNo → List ℕ
+carried_is None = []
+carried_is (Some d) = d.0 ∷ []
 
 -- What is carried fits a word.
 abbrev pub Narrow : List ℕ → Type 0

@@ -2,24 +2,38 @@
 #![tactic(auto)]
 
 ghost use Rattle.std.specs.Prelude.{◌≡◌, nat_abs};
-ghost use Rattle.base.specs.Numbers.{number_of, carried_by, carried_is, Narrow};
+ghost use Rattle.base.specs.Numbers.{number_of, carried_by, carried_is, Narrow, IsNumberOf};
+
+use std::fmt;
 
 // The number of a document.
 #[repr(C)]
-#[derive(Clone, Copy)]
+#[derive(Clone, Copy, Debug, PartialEq, Eq, PartialOrd, Ord)]
 pub struct DocNo(pub u32);
+
+impl fmt::Display for DocNo {
+    fn fmt<W: fmt::Write>(&self, f: &mut fmt::Formatter<W>) -> fmt::Result {
+        self.0.fmt(f)
+    }
+}
 
 // The number of a frame.
 #[repr(C)]
-#[derive(Clone, Copy)]
+#[derive(Clone, Copy, Debug, PartialEq, Eq, PartialOrd, Ord)]
 pub struct FrameNo(pub u32);
 
+impl fmt::Display for FrameNo {
+    fn fmt<W: fmt::Write>(&self, f: &mut fmt::Formatter<W>) -> fmt::Result {
+        self.0.fmt(f)
+    }
+}
+
 // The place of a row in the record, counted from 0.
-#[derive(Clone, Copy)]
+#[derive(Clone, Copy, Debug, PartialEq, Eq, PartialOrd, Ord)]
 pub struct RowPlace(pub usize);
 
 // Why a call is refused, by the paper's table "Nine ways to say no" with what document 02 adds.
-#[derive(Clone, Copy)]
+#[derive(Clone, Copy, Debug, PartialEq, Eq)]
 pub enum Refusal {
     // record under 7 words
     ShortRecord,
@@ -52,52 +66,56 @@ pub enum Refusal {
 }
 
 // The paper's number of a refusal.
-pub fn refusal_number(refusal: Refusal) -> u32
-    ensures { result ≡ number_of refusal }
-{
-    match refusal {
-        Refusal::ShortRecord => 1,
-        Refusal::Unsound => 2,
-        Refusal::NotSaved => 3,
-        Refusal::Absent => 4,
-        Refusal::Hidden(_) => 5,
-        Refusal::Beyond => 6,
-        Refusal::Full => 7,
-        Refusal::UsedUp => 8,
-        Refusal::ShortBuffer => 9,
-        Refusal::RootFrame => 10,
-        Refusal::NotFinite => 11,
-        Refusal::NoEntry => 12,
-        Refusal::NoRoot => 13,
-        Refusal::BadPlaces => 15,
+impl From<Refusal> for u32 {
+    ghost from_gives = { IsNumberOf };
+
+    fn from(refusal: Refusal) -> u32 {
+        match refusal {
+            Refusal::ShortRecord => 1,
+            Refusal::Unsound => 2,
+            Refusal::NotSaved => 3,
+            Refusal::Absent => 4,
+            Refusal::Hidden(_) => 5,
+            Refusal::Beyond => 6,
+            Refusal::Full => 7,
+            Refusal::UsedUp => 8,
+            Refusal::ShortBuffer => 9,
+            Refusal::RootFrame => 10,
+            Refusal::NotFinite => 11,
+            Refusal::NoEntry => 12,
+            Refusal::NoRoot => 13,
+            Refusal::BadPlaces => 15,
+        }
     }
 }
 
-// What a refusal carries.
-#[derive(Clone, Copy)]
-pub enum Carried {
-    Nothing,
-    Document(DocNo),
-}
-
-// What a refusal carries: who hides the document, or nothing.
-pub fn refusal_carries(refusal: Refusal) -> Carried
-    ensures { (carried_is result ≡ carried_by refusal) × Narrow (carried_by refusal) }
-{
-    match refusal {
-        Refusal::Hidden(d) => Carried::Document(d),
-        _ => Carried::Nothing,
+impl Refusal {
+    // The document that a refusal carries, if it does: who hides the one that was asked for.
+    pub fn carried(self) -> Option<DocNo>
+        ensures is { carried_is result ≡ carried_by self }
+        ensures narrow { Narrow (carried_by self) }
+    {
+        match self {
+            Refusal::Hidden(d) => Some(d),
+            _ => None,
+        }
     }
 }
 
-// The magnitude of an amount, taken in a wider type, so that the least number has one too; it fits 32 bits without a sign.
+// The number of a refusal, and at which document where it carries one.
+impl fmt::Display for Refusal {
+    fn fmt<W: fmt::Write>(&self, f: &mut fmt::Formatter<W>) -> fmt::Result {
+        let number = u32::from(*self);
+        match self.carried() {
+            Some(d) => write!(f, "{number} at {d}"),
+            None => write!(f, "{number}"),
+        }
+    }
+}
+
+// The magnitude of an amount: the least number has one too, and it fits 32 bits without a sign.
 pub fn magnitude(delta: i32) -> usize
     ensures { result ≡ nat_abs delta }
 {
-    if delta < 0 {
-        let wide = delta as i64;
-        ((0 - wide) as u32) as usize
-    } else {
-        (delta as u32) as usize
-    }
+    delta.unsigned_abs() as usize
 }
