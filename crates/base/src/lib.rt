@@ -11,6 +11,11 @@ use std::fmt;
 #[derive(Clone, Copy, Debug, PartialEq, Eq, PartialOrd, Ord)]
 pub struct DocNo(pub u32);
 
+impl DocNo {
+    // No document: no parent, and as the next number that all are used.
+    pub const NONE: DocNo = DocNo(4294967295);
+}
+
 impl fmt::Display for DocNo {
     fn fmt<W: fmt::Write>(&self, f: &mut fmt::Formatter<W>) -> fmt::Result {
         self.0.fmt(f)
@@ -21,6 +26,11 @@ impl fmt::Display for DocNo {
 #[repr(C)]
 #[derive(Clone, Copy, Debug, PartialEq, Eq, PartialOrd, Ord)]
 pub struct FrameNo(pub u32);
+
+impl FrameNo {
+    // No frame: as the next number that all are used.
+    pub const NONE: FrameNo = FrameNo(4294967295);
+}
 
 impl fmt::Display for FrameNo {
     fn fmt<W: fmt::Write>(&self, f: &mut fmt::Formatter<W>) -> fmt::Result {

@@ -22,12 +22,12 @@ use Rattle.reads.specs.Found.{found_below}
 use Rattle.base.specs.declared.RowPlace.{RowPlace}
 use Rattle.reads.specs.Within.{Within, is_word, has_word}
 use Rattle.reads.specs.Under.{Under}
-use Rattle.reads.specs.declared.Found.{Found}
-use Rattle.reads.specs.declared.Found.TheVariants.{At, Nothing}
+use Rattle.std.specs.Prelude.{Option, None, Some}
+use Rattle.std.specs.Option.{is_some}
 
 module _ (p : ℕ → Bool) where
   -- The last place passes.
-  here : (k : ℕ) → So (p k) → At (record { 0 = k }) ≡ found_below p (suc k)
+  here : (k : ℕ) → So (p k) → Some (record { 0 = k }) ≡ found_below p (suc k)
   unfolding found_below latest
   here k t = rw (some_in p (suc k) (omega arith) t, t) refl
 
@@ -37,7 +37,7 @@ module _ (p : ℕ → Bool) where
   on k f = test (some_below k p) (λ t. rw (t, f) refl) (λ t. rw (t, f) refl)
 
   -- Place i, the last before j, passes; no place from j up to n does.
-  pub found_here : (n j i : ℕ) (b : Bool) → found_below p n ≡ found_below p j → j ≡ suc i → b ≡ p i → b ≡ true → At (record { 0 = i }) ≡ found_below p n
+  pub found_here : (n j i : ℕ) (b : Bool) → found_below p n ≡ found_below p j → j ≡ suc i → b ≡ p i → b ≡ true → Some (record { 0 = i }) ≡ found_below p n
   found_here n j i b h e f t = here i (sym f ∙ t) ∙ sym (h ∙ ap (found_below p) e)
 
   -- Place i, the last before j, fails too.
@@ -45,32 +45,32 @@ module _ (p : ℕ → Bool) where
   found-on n j i b h e f t = h ∙ ap (found_below p) e ∙ on i (sym f ∙ t)
 
   -- The row just before place n has failed by itself.
-  pub found-past : (n : ℕ) (r : Found) → p (n - 1) ≡ false → 0 < n → r ≡ found_below p (n - 1) → r ≡ found_below p n
+  pub found-past : (n : ℕ) (r : Option RowPlace) → p (n - 1) ≡ false → 0 < n → r ≡ found_below p (n - 1) → r ≡ found_below p n
   found-past n r f l e = e ∙ sym (found-on n n (n - 1) false refl (omega arith) (sym f) refl)
 
   -- No place up to n passes.
-  pub found-end : (n j : ℕ) → found_below p n ≡ found_below p j → j ≡ 0 → Nothing ≡ found_below p n
+  pub found-end : (n j : ℕ) → found_below p n ≡ found_below p j → j ≡ 0 → None ≡ found_below p n
   unfolding found_below some_below
   found-end n j h e = sym (h ∙ ap (found_below p) e)
 
   -- What an answer says.
-  pub found_at : (n : ℕ) (q : RowPlace) → found_below p n ≡ At q → So (some_below n p) × (latest p n ≡ q.0)
+  pub found_at : (n : ℕ) (q : RowPlace) → found_below p n ≡ Some q → So (some_below n p) × (latest p n ≡ q.0)
   unfolding found_below
   found_at n q e =
-      test (some_below n p) (λ t. let f : At (record { 0 = latest p n }) ≡ At q = rw t at e in (t, cc)) (λ t. let f : Nothing ≡ At q = rw t at e in absurd (let z : ◌≡◌ {A = ℕ} 0 1 = cc in omega arith))
+      test (some_below n p) (λ t. let f : Some (record { 0 = latest p n }) ≡ Some q = rw t at e in (t, cc)) (λ t. let f : None ≡ Some q = rw t at e in absurd (let z : ◌≡◌ {A = ℕ} 0 1 = cc in omega arith))
 
-  pub found-lower : (n : ℕ) (q : RowPlace) → found_below p n ≡ At q → q.0 < n
+  pub found-lower : (n : ℕ) (q : RowPlace) → found_below p n ≡ Some q → q.0 < n
   found-lower n q e = let r = found_at n q e in subst (λ k. k < n) r.1 (latest-out p n r.0).0
 
-  pub found_nothing : (n : ℕ) → found_below p n ≡ Nothing → some_below n p ≡ false
+  pub found_nothing : (n : ℕ) → found_below p n ≡ None → some_below n p ≡ false
   unfolding found_below
   found_nothing n e =
-      test (some_below n p) (λ t. let f : At (record { 0 = latest p n }) ≡ Nothing = rw t at e in absurd (let z : ◌≡◌ {A = ℕ} 0 1 = cc in omega arith)) (λ t. t)
+      test (some_below n p) (λ t. let f : Some (record { 0 = latest p n }) ≡ None = rw t at e in absurd (let z : ◌≡◌ {A = ℕ} 0 1 = cc in omega arith)) (λ t. t)
 
-  pub some-found : (n : ℕ) (r : Found) (q : RowPlace) → r ≡ found_below p n → r ≡ At q → true ≡ some_below n p
+  pub some-found : (n : ℕ) (r : Option RowPlace) (q : RowPlace) → r ≡ found_below p n → r ≡ Some q → true ≡ some_below n p
   some-found n r q e f = sym (found_at n q (sym e ∙ f)).0
 
-  pub none_found : (n : ℕ) (r : Found) → r ≡ found_below p n → r ≡ Nothing → false ≡ some_below n p
+  pub none_found : (n : ℕ) (r : Option RowPlace) → r ≡ found_below p n → r ≡ None → false ≡ some_below n p
   none_found n r e f = sym (found_nothing n (sym e ∙ f))
 
 -- Tests that agree on the places before n find the same.
@@ -84,7 +84,7 @@ module _ (words : List ℕ) (back v : ℕ) where
   -- The word tried, k, is that of row i, the last before place j; it has the value.
   pub word-here : (n j i k : ℕ) (b : Bool) →
       found_below (has_word words back v) n ≡ found_below (has_word words back v) j → b ≡ is_word words v k → b ≡ true → j ≡ suc i → k ≡ 4 * i + 4 - back →
-      At (record { 0 = i }) ≡ found_below (has_word words back v) n
+      Some (record { 0 = i }) ≡ found_below (has_word words back v) n
   unfolding has_word
   word-here n j i k b h f t e w = found_here _ n j i b h e (f ∙ ap (is_word words v) w) t
 
@@ -97,13 +97,13 @@ module _ (words : List ℕ) (back v : ℕ) where
 
 module _ (words : List ℕ) where
   -- The word just before the frame is the document.
-  pub found-document : (n d : ℕ) (r : Found) → n ≤ length (rows_of words) → r ≡ found_below (has_word words 1 d) n → r ≡ found_below (is_doc (rows_of words) d) n
+  pub found-document : (n d : ℕ) (r : Option RowPlace) → n ≤ length (rows_of words) → r ≡ found_below (has_word words 1 d) n → r ≡ found_below (is_doc (rows_of words) d) n
   unfolding has_word
   found-document n d r l h =
       h ∙ found-same _ _ n (λ i m. let e : 4 * i + 4 - 1 ≡ 3 + 4 * i = omega arith in ap (λ x. eqb x d) (ap (λ k. get_or words k 0) e ∙ doc-in words i (omega arith)))
 
   -- The word no words before the frame is the frame itself.
-  pub found-frame : (n f : ℕ) (r : Found) → n ≤ length (rows_of words) → r ≡ found_below (has_word words 0 f) n → r ≡ found_below (in_frame (rows_of words) f) n
+  pub found-frame : (n f : ℕ) (r : Option RowPlace) → n ≤ length (rows_of words) → r ≡ found_below (has_word words 0 f) n → r ≡ found_below (in_frame (rows_of words) f) n
   unfolding has_word
   found-frame n f r l h =
       h ∙ found-same _ _ n (λ i m. let e : 4 * i + 4 - 0 ≡ 4 + 4 * i = omega arith in ap (λ x. eqb x f) (ap (λ k. get_or words k 0) e ∙ frame-in words i (omega arith)))
@@ -120,20 +120,18 @@ steps-fit words i k b l w = let a = w.fits in let c = w.below in record { fits =
 -- THE ROW BEFORE IN THE FRAME
 
 -- The latest row of a row's own frame.
-pub found-own : (rows : List Row) (i n f : ℕ) (r : Found) → f ≡ frame_at rows i → r ≡ found_below (in_frame rows f) n → r ≡ found_below (same (frame_at rows) i) n
+pub found-own : (rows : List Row) (i n f : ℕ) (r : Option RowPlace) → f ≡ frame_at rows i → r ≡ found_below (in_frame rows f) n → r ≡ found_below (same (frame_at rows) i) n
 found-own rows i n f r e h = h ∙ ap (λ f. found_below (in_frame rows f) n) e
 
 module _ (fr : ℕ → ℕ) (i : ℕ) where
   -- A frame number above all before it is a new one.
-  pub found-higher : (high : ℕ) → Under fr i high → high < fr i → Nothing ≡ found_below (same fr i) i
+  pub found-higher : (high : ℕ) → Under fr i high → high < fr i → None ≡ found_below (same fr i) i
   unfolding found_below
   found-higher high h l =
       rw (off (some_below i (same fr i)) (λ s. let k = some_out (same fr i) i s in omega (arith, h k.0 k.1, eqb-true (fr k.0) (fr i) k.2))) refl
 
-  pub step-found : (r : Found) (q : RowPlace) → r ≡ found_below (same fr i) i → r ≡ At q → true ≡ step fr i
+  -- A row is found where the row is a step.
+  pub step-found : (r : Option RowPlace) (b : Bool) → r ≡ found_below (same fr i) i → b ≡ is_some r → b ≡ step fr i
   unfolding step
-  step-found r q e f = some-found (same fr i) i r q e f
-
-  pub first_found : (r : Found) → r ≡ found_below (same fr i) i → r ≡ Nothing → false ≡ step fr i
-  unfolding step
-  first_found r e f = none_found (same fr i) i r e f
+  step-found None b e f = f ∙ none_found (same fr i) i None e refl
+  step-found (Some q) b e f = f ∙ some-found (same fr i) i (Some q) q e refl
