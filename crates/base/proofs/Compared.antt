@@ -1,5 +1,5 @@
 -- What the answer of a derived comparison of two numbers says of them. Assumes nothing.
-use Rattle.std.proofs.Common.{ℕ, Bool, true, false, refl, true≢false, not, ◌≡◌, ◌<◌, ◌≤◌, nat_eq, arith, sym, ap, ◌∙◌}
+use Rattle.std.proofs.Common.{ℕ, Bool, true, false, refl, true≢false, not, ◌≡◌, ◌<◌, ◌≤◌, nat_eq, sym, ap, ◌∙◌}
 use Rattle.std.specs.Ordering.{is_lt, is_le, nat_cmp}
 use Rattle.std.proofs.lemmas.Bool.{eqb-true, eq-eqb, not-false}
 use Rattle.std.proofs.lemmas.Map.Keys.{ge_from_not_lt, le_from_is_le}

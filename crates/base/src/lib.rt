@@ -42,6 +42,15 @@ impl fmt::Display for FrameNo {
 #[derive(Clone, Copy, Debug, PartialEq, Eq, PartialOrd, Ord)]
 pub struct RowPlace(pub usize);
 
+// A row: its document, its frame, its parent document, and the word that tells whether it is shown.
+#[derive(Clone, Copy, Debug, PartialEq, Eq)]
+pub struct Row {
+    pub document: DocNo,
+    pub frame: FrameNo,
+    pub parent: DocNo,
+    pub shown: u32,
+}
+
 // Why a call is refused, by the paper's table "Nine ways to say no" with what document 02 adds.
 #[derive(Clone, Copy, Debug, PartialEq, Eq)]
 pub enum Refusal {

@@ -1,6 +1,6 @@
 -- What a walk knows of a window at its start, and after a row. Assumes nothing.
 use Prim.Native.Nat.{ℕ, ◌<◌}
-use mathlib.Core.Bool.{true, false}
+use mathlib.Core.Bool.{Bool, true, false}
 use mathlib.Core.List.{List}
 use mathlib.Core.Logic.{◌≢◌}
 use mathlib.Core.Path.{◌≡◌, sym, ap, ◌∙◌}
@@ -25,8 +25,8 @@ beneath-recalled rows kin i l known w o =
 
 module _ (rows : List Row) (r i : ℕ) (l : i < length rows) (known : Known) (w : Recalls r rows known) (up : ℕ) (up_is : up ≡ parent_at rows i) where
   -- Without a parent the frame tells.
-  pub member-top : (f : ℕ) → up ≡ none → f ≡ frame_at rows i → Sided r rows i (record { inside = eqb f r; known = known })
-  member-top f z e = record { inside_is = ap (λ x. eqb x r) (e ∙ sym (root-top rows i (sym up_is ∙ z))); recalls = w }
+  pub member-top : (f : ℕ) (inside : Bool) → up ≡ none → f ≡ frame_at rows i → inside ≡ eqb f r → Sided r rows i (record { inside = inside; known = known })
+  member-top f inside z e g = record { inside_is = g ∙ ap (λ x. eqb x r) (e ∙ sym (root-top rows i (sym up_is ∙ z))); recalls = w }
 
   module _ (there : up ≢ none) where
     beneath : parent_at rows i ≢ none

@@ -9,7 +9,6 @@ ghost use Rattle.reads.specs.Within.{Within};
 ghost use Rattle.members.specs.Members.{Kin, Recalls, Sided, nothing, learned};
 
 use base::{DocNo, FrameNo, RowPlace};
-use reads::NONE;
 
 // The parents of rows that were last found within the window and outside it; none where there was no such row.
 #[derive(Clone, Copy)]
@@ -30,8 +29,8 @@ pub fn nothing_known() -> Known
     ensures { result ≡ nothing }
 {
     Known {
-        within: DocNo(NONE),
-        outside: DocNo(NONE),
+        within: DocNo::NONE,
+        outside: DocNo::NONE,
     }
 }
 
@@ -40,10 +39,9 @@ pub fn known_beneath(words: &[u32], at: RowPlace) -> Known
     requires { Within words.now at.0 × Kin (rows_of words.now) }
     ensures { Recalls (root_at (rows_of words.now) at.0) (rows_of words.now) result }
 {
-    let within = reads::parent(words, at);
     Known {
-        within,
-        outside: DocNo(NONE),
+        within: reads::parent(words, at),
+        outside: DocNo::NONE,
     }
 }
 
@@ -51,17 +49,16 @@ pub fn known_beneath(words: &[u32], at: RowPlace) -> Known
 fn learn(known: Known, up: DocNo, inside: bool) -> Known
     ensures { result ≡ learned known up inside }
 {
-    let within = known.within;
-    let outside = known.outside;
     if inside {
-        return Known {
+        Known {
             within: up,
-            outside,
-        };
-    }
-    Known {
-        within,
-        outside: up,
+            ..known
+        }
+    } else {
+        Known {
+            outside: up,
+            ..known
+        }
     }
 }
 
@@ -71,23 +68,23 @@ pub fn belongs(words: &[u32], at: RowPlace, root: FrameNo, known: Known) -> Memb
     ensures { Sided root.0 (rows_of words.now) at.0 result }
 {
     let up = reads::parent(words, at);
-    if up.0 == NONE {
-        let inside = reads::frame(words, at).0 == root.0;
+    if up == DocNo::NONE {
+        let inside = reads::frame(words, at) == root;
         return Member { inside, known };
     }
-    if up.0 == known.within.0 {
+    if up == known.within {
         return Member {
             inside: true,
             known,
         };
     }
-    if up.0 == known.outside.0 {
+    if up == known.outside {
         return Member {
             inside: false,
             known,
         };
     }
-    let inside = reads::root_of(words, at).0 == root.0;
+    let inside = reads::root_of(words, at) == root;
     let known = learn(known, up, inside);
     Member { inside, known }
 }

@@ -1,6 +1,8 @@
 -- What a reader of rows may rely on. Definitions.
 use Rattle.std.specs.Prelude.{ℕ, ◌+◌, ◌-◌, ◌*◌, ◌≤◌, ◌<◌, Bool, List, eqb, length, get_or}
+use Rattle.rules.specs.Rows.{Row}
 use Rattle.rules.specs.Words.{capacity, rows_of}
+use Rattle.base.specs.declared.Row.{Row as Read}
 
 -- The rows in use lie within the words, and place i is no later than their end.
 pub record Before (words : List ℕ) (i : ℕ) : Type 0 where
@@ -19,3 +21,7 @@ is_word words v k = eqb (get_or words k 0) v
 -- The word that stands back words before the frame of row i has the value v.
 unfoldable pub has_word : List ℕ → ℕ → ℕ → ℕ → Bool
 has_word words back v i = is_word words v (4 * i + 4 - back)
+
+-- The four words of a row, by what they are.
+abbrev pub read_of : Row → Read
+read_of r = record { document = record { 0 = r.doc }; frame = record { 0 = r.frame }; parent = record { 0 = r.parent }; shown = r.shown }

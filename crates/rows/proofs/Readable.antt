@@ -6,18 +6,16 @@ use mathlib.Core.Path.{◌≡◌, refl, sym, ap, ◌∙◌}
 use native.Mathlib.Omega.{arith}
 use lib.ListN.{length, get_or-eq_default}
 use borrow.Author.Tests.{le-leb, lt-leb}
-use Rattle.base.specs.declared.DocNo.{DocNo}
-use Rattle.base.specs.declared.FrameNo.{FrameNo}
 use Rattle.rules.specs.Below.{some_below}
-use Rattle.rules.specs.Rows.{no_row, row_at, doc_at, frame_at, parent_at, shown_at, is_doc}
+use Rattle.rules.specs.Rows.{no_row, row_at, is_doc}
 use Rattle.rules.specs.Words.{capacity, rows_of}
 use Rattle.laws.proofs.Tests.{by-lt}
-use Rattle.reads.specs.Within.{Before, Within}
+use Rattle.reads.specs.Within.{Before, Within, read_of}
 use Rattle.reads.specs.Found.{found_below}
-use Rattle.reads.specs.declared.Found.{Found}
-use Rattle.reads.specs.declared.Found.TheVariants.{Nothing}
-use Rattle.rows.specs.declared.Row.{Row as Read}
-use Rattle.rows.specs.Readable.{readable_rows, read_of}
+use Rattle.std.specs.Prelude.{Option, None}
+use Rattle.base.specs.declared.RowPlace.{RowPlace}
+use Rattle.base.specs.declared.Row.{Row as Read}
+use Rattle.rows.specs.Readable.{readable_rows}
 
 module _ (words : List ℕ) where
   -- With room for the rows in use, they are what can be read.
@@ -48,20 +46,19 @@ module _ (words : List ℕ) where
   pub row-past : (n i : ℕ) → n ≡ length (readable_rows words) → n ≤ i → read_of no_row ≡ read_of (row_at (readable_rows words) i)
   row-past n i e l = ap read_of (sym (get_or-eq_default (readable_rows words) no_row (omega arith)))
 
-  pub row_read : (n i s : ℕ) (d u : DocNo) (f : FrameNo) → n ≡ length (readable_rows words) → i < n → d.0 ≡ doc_at (rows_of words) i → f.0 ≡ frame_at (rows_of words) i →
-      u.0 ≡ parent_at (rows_of words) i → s ≡ shown_at (rows_of words) i → record { document = d; frame = f; parent = u; shown = s } ≡ read_of (row_at (readable_rows words) i)
-  row_read n i s d u f e l a b c g = rw (readable-rows (readable-within i (omega arith)).fits, ← a, ← b, ← c, ← g) refl
+  pub row_read : (i : ℕ) (r : Read) → Within words i → r ≡ read_of (row_at (rows_of words) i) → r ≡ read_of (row_at (readable_rows words) i)
+  row_read i r w e = e ∙ ap (λ rows. read_of (row_at rows i)) (sym (readable-rows w.fits))
 
   pub row_within : (i : ℕ) (r : Read) → Within words i → r ≡ read_of (row_at (readable_rows words) i) → r ≡ read_of (row_at (rows_of words) i)
   row_within i r w e = e ∙ ap (λ rows. read_of (row_at rows i)) (readable-rows w.fits)
 
   -- A document among those that can be read.
-  pub find_none : (n : ℕ) (p : ℕ → Bool) → n ≡ length (readable_rows words) → n ≡ 0 → Nothing ≡ found_below p (length (readable_rows words))
+  pub find_none : (n : ℕ) (p : ℕ → Bool) → n ≡ length (readable_rows words) → n ≡ 0 → None ≡ found_below p (length (readable_rows words))
   unfolding found_below some_below
   find_none n p e z = rw (sym e ∙ z) refl
 
   pub find-before : (n : ℕ) → n ≡ length (readable_rows words) → 0 < n → Before words n
   find-before n e l = let w = readable-within 0 (omega arith) in record { fits = w.fits; upto = omega (arith, ap length (readable-rows w.fits)) }
 
-  pub find-within : (n d : ℕ) (r : Found) → n ≡ length (readable_rows words) → 0 < n → r ≡ found_below (is_doc (rows_of words) d) n → r ≡ found_below (is_doc (readable_rows words) d) (length (readable_rows words))
+  pub find-within : (n d : ℕ) (r : Option RowPlace) → n ≡ length (readable_rows words) → 0 < n → r ≡ found_below (is_doc (rows_of words) d) n → r ≡ found_below (is_doc (readable_rows words) d) (length (readable_rows words))
   find-within n d r e l h = h ∙ rw (← readable-rows (readable-within 0 (omega arith)).fits, e) refl

@@ -2,12 +2,7 @@
 use Rattle.std.specs.Prelude.{ℕ, cond, List, [], leb, length}
 use Rattle.rules.specs.Rows.{Row}
 use Rattle.rules.specs.Words.{capacity, rows_of}
-use Rattle.rows.specs.declared.Row.{Row as Read}
 
 -- The rows that can be read: those in use, if there is room for them; else none.
 unfoldable pub readable_rows : List ℕ → List Row
 readable_rows words = cond (leb (length (rows_of words)) (capacity words)) (rows_of words) []
-
--- The four words of a row, by what they are.
-abbrev pub read_of : Row → Read
-read_of r = record { document = record { 0 = r.doc }; frame = record { 0 = r.frame }; parent = record { 0 = r.parent }; shown = r.shown }

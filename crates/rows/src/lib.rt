@@ -5,42 +5,30 @@ ghost use Rattle.std.specs.Prelude.{◌≡◌, length, get_or};
 ghost use Rattle.rules.specs.Rows.{row_at, is_doc};
 ghost use Rattle.rules.specs.Words.{capacity, table_of, rows_of};
 ghost use Rattle.reads.specs.Found.{found_below};
-ghost use Rattle.rows.specs.Readable.{readable_rows, read_of};
+ghost use Rattle.reads.specs.Within.{read_of};
+ghost use Rattle.rows.specs.Readable.{readable_rows};
 
-use base::{DocNo, FrameNo, RowPlace};
-use reads::Found;
+use base::{DocNo, FrameNo, Row, RowPlace};
 
 // A word; 0 past the end.
 fn word(words: &[u32], k: usize) -> u32
     ensures { result ≡ get_or words.now k 0 }
 {
-    if k < words.len() { words[k] } else { 0 }
-}
-
-// A word as a count.
-fn wide(x: u32) -> usize
-    ensures { result ≡ x }
-{
-    x as usize
+    words.get(k).copied().unwrap_or(0)
 }
 
 // How many rows the words have room for.
 pub fn capacity(words: &[u32]) -> usize
     ensures { result ≡ capacity words.now }
 {
-    let len = words.len();
-    if len < 3 {
-        return 0;
-    }
-    let c = (len - 3) / 4;
-    if c < 512 { c } else { 512 }
+    (words.len().saturating_sub(3) / 4).min(512)
 }
 
 // The rows in use.
 pub fn row_count(words: &[u32]) -> usize
     ensures { result ≡ length (rows_of words.now) }
 {
-    wide(word(words, 0))
+    word(words, 0) as usize
 }
 
 // The next document number.
@@ -62,19 +50,7 @@ pub fn readable_count(words: &[u32]) -> usize
     ensures { result ≡ length (readable_rows words.now) }
 {
     let n = row_count(words);
-    if capacity(words) < n {
-        return 0;
-    }
-    n
-}
-
-// A row: its document, its frame, its parent document, and the word that tells whether it is shown.
-#[derive(Clone, Copy)]
-pub struct Row {
-    pub document: DocNo,
-    pub frame: FrameNo,
-    pub parent: DocNo,
-    pub shown: u32,
+    if capacity(words) < n { 0 } else { n }
 }
 
 // A row; four zeros past those that can be read.
@@ -89,25 +65,16 @@ pub fn read_row(words: &[u32], at: RowPlace) -> Row
             shown: 0,
         };
     }
-    let document = reads::document(words, at);
-    let frame = reads::frame(words, at);
-    let parent = reads::parent(words, at);
-    let shown = reads::shown(words, at);
-    Row {
-        document,
-        frame,
-        parent,
-        shown,
-    }
+    reads::row(words, at)
 }
 
 // The row of a document.
-pub fn find(words: &[u32], d: DocNo) -> Found
+pub fn find(words: &[u32], d: DocNo) -> Option<RowPlace>
     ensures { result ≡ found_below (is_doc (readable_rows words.now) d.0) (length (readable_rows words.now)) }
 {
     let n = readable_count(words);
     if n == 0 {
-        return Found::Nothing;
+        return None;
     }
     reads::find_below(words, RowPlace(n), d)
 }

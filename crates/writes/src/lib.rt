@@ -4,19 +4,19 @@
 ghost use Rattle.std.specs.Prelude.{◌≡◌, [], ◌∷◌, ◌+◌, ◌-◌, ◌*◌, ◌<◌, ◌≤◌, length, replicate, set, take};
 ghost use Rattle.rules.specs.Words.{capacity, put};
 
-use base::{DocNo, FrameNo, RowPlace};
+use base::{DocNo, FrameNo, Row, RowPlace};
 
 // Writes a row.
-pub fn put_row(words: &mut [u32], at: RowPlace, d: DocNo, f: FrameNo, up: DocNo, shown: u32)
+pub fn put_row(words: &mut [u32], at: RowPlace, row: Row)
     requires { at.0 < capacity words.old }
-    ensures { words.new ≡ put words.old (3 + 4 * at.0) (d.0 ∷ f.0 ∷ up.0 ∷ shown ∷ []) }
+    ensures { words.new ≡ put words.old (3 + 4 * at.0) (row.document.0 ∷ row.frame.0 ∷ row.parent.0 ∷ row.shown ∷ []) }
 {
     let i = at.0;
     let k = 3 + 4 * i;
-    words[k] = d.0;
-    words[k + 1] = f.0;
-    words[k + 2] = up.0;
-    words[k + 3] = shown;
+    words[k] = row.document.0;
+    words[k + 1] = row.frame.0;
+    words[k + 2] = row.parent.0;
+    words[k + 3] = row.shown;
 }
 
 // Writes the document of a row.
@@ -54,11 +54,7 @@ pub fn clear(words: &mut [u32], from: usize, to: usize)
     requires { (from ≤ to) × (to ≤ length words.old) }
     ensures { words.new ≡ put words.old from (replicate (to - from) 0) }
 {
-    let mut k = from;
-    while k < to {
-        words[k] = 0;
-        k += 1;
-    }
+    words[from..to].fill(0);
 }
 
 // Stores a value at a place, where there is one.
@@ -75,9 +71,5 @@ pub fn copy(words: &mut [u32], from: &[u32], end: usize)
     requires { (end ≤ length words.old) × (end ≤ length from.now) }
     ensures { words.new ≡ put words.old 0 (take end from.now) }
 {
-    let mut k = 0;
-    while k < end {
-        words[k] = from[k];
-        k += 1;
-    }
+    words[..end].copy_from_slice(&from[..end]);
 }
