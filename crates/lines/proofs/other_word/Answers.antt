@@ -1,31 +1,28 @@
 -- The goals of `lines::other_word` that want a word.
-use mathlib.Core.Path.{ap, ◌∙◌}
-use Rattle.lines.specs.Decimal.{numeral}
-use Rattle.lines.specs.Lines.{drop_word, replace_word}
-use Rattle.lines.proofs.Firsts.{starts-long}
-use Rattle.lines.proofs.Commands.{to_end, other-drop, other-replace, other-tab, other-bad}
+use mathlib.Core.Path.{sym, ap, ◌∙◌}
+use lib.Dec.{eqb}
+use lib.Pointwise.{pointwise}
+use Rattle.std.specs.Prelude.{Some, None}
+use Rattle.lines.specs.Lines.{command_is}
+use Rattle.lines.proofs.Commands.{other_drop, other_replace, other_tab}
 use Rattle.lines.proofs.other_word.Goals as goal
 
-pub slice_bounds-numeral-count : goal.slice_bounds-numeral-count
-slice_bounds-numeral-count c = starts-long drop_word c.args.line.now _ c.starts.ensures c.if-starts.true
+pub returns-in_err-numeral : goal.returns-in_err-numeral
+returns-in_err-numeral c = ap command_is c.from_residual.ensures ∙ other_drop c.args.line.now _ None c.in-Some.ensures.cases (sym c.in_err-numeral.was ∙ c.numeral.ensures)
 
-pub slice_bounds-numeral-start : goal.slice_bounds-numeral-start
-slice_bounds-numeral-start c = starts-long drop_word c.args.line.now _ c.starts.ensures c.if-starts.true
+pub returns-in-Some : goal.returns-in-Some
+returns-in-Some c = other_drop c.args.line.now _ (Some _) c.in-Some.ensures.cases (sym c.in_ok-numeral.was ∙ c.numeral.ensures)
 
-pub returns-then-starts : goal.returns-then-starts
-returns-then-starts c = other-drop c.args.line.now _ c.starts.ensures _ _ c.if-starts.true (c.numeral.ensures ∙ ap (numeral _) (to_end c.args.line.now 5 (starts-long drop_word c.args.line.now _ c.starts.ensures c.if-starts.true))) c.dropping.ensures
+pub returns-in_err-numeral-2 : goal.returns-in_err-numeral-2
+returns-in_err-numeral-2 c =
+    ap command_is c.from_residual-in_err-numeral-2.ensures
+    ∙ other_replace c.args.line.now _ None c.in_default.ensures.cases c.in-Some-strip_prefix.ensures.cases (sym c.in_err-numeral-2.was ∙ c.numeral-in-Some-strip_prefix.ensures)
 
-pub slice_bounds-numeral-count-then-starts-2 : goal.slice_bounds-numeral-count-then-starts-2
-slice_bounds-numeral-count-then-starts-2 c = starts-long replace_word c.args.line.now _ c.starts-2.ensures c.if-starts-2.true
-
-pub slice_bounds-numeral-start-then-starts-2 : goal.slice_bounds-numeral-start-then-starts-2
-slice_bounds-numeral-start-then-starts-2 c = starts-long replace_word c.args.line.now _ c.starts-2.ensures c.if-starts-2.true
-
-pub returns-then-starts-2 : goal.returns-then-starts-2
-returns-then-starts-2 c = other-replace c.args.line.now _ c.starts.ensures c.if-starts.false _ c.starts-2.ensures _ _ c.if-starts-2.true (c.numeral-then-starts-2.ensures ∙ ap (numeral _) (to_end c.args.line.now 8 (starts-long replace_word c.args.line.now _ c.starts-2.ensures c.if-starts-2.true))) c.replacement.ensures
-
-pub returns-then-is_tab : goal.returns-then-is_tab
-returns-then-is_tab c = other-tab c.args.line.now _ c.starts.ensures c.if-starts.false _ c.starts-2.ensures c.if-starts-2.false _ c.is_tab.ensures c.if-is_tab.true
+pub returns-in-Some-strip_prefix : goal.returns-in-Some-strip_prefix
+returns-in-Some-strip_prefix c =
+    other_replace c.args.line.now _ (Some _) c.in_default.ensures.cases c.in-Some-strip_prefix.ensures.cases (sym c.in_ok-numeral-2.was ∙ c.numeral-in-Some-strip_prefix.ensures)
 
 pub returns : goal.returns
-returns c = other-bad c.args.line.now _ c.starts.ensures c.if-starts.false _ c.starts-2.ensures c.if-starts-2.false _ c.is_tab.ensures c.if-is_tab.false
+returns c =
+    ap command_is c.then_some.ensures
+    ∙ other_tab c.args.line.now _ c.in_default.ensures.cases c.in_default-strip_prefix.ensures.cases (c.eq.ensures ∙ ap (pointwise eqb c.args.line.now) c.as_slice.ensures)
