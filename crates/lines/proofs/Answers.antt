@@ -14,20 +14,20 @@ use Rattle.laws.specs.Writes.{Wrote}
 use Rattle.lines.specs.Decimal.{decimal}
 use Rattle.lines.specs.Reply.{reply_is, end_text, status_text, tab_text, denied_text, answer_text}
 use Rattle.lines.specs.declared.Reply.{Reply}
-use Rattle.lines.specs.declared.Stand.{Stand}
+use Rattle.lines.specs.declared.Progress.{Progress}
 use Rattle.lines.proofs.Texts.{room_front, room_middle, room_end, wrote_three, tens, decimal-within, status-about, tab-within, status-within}
 use Rattle.lines.specs.declared.Reply.TheVariants as Replies
 
 module _ (reply : Reply) where
-  pub answer_ok : (v : ℕ) (s : Stand) → reply ≡ Replies.Ok v s → answer_text (reply_is reply) ≡ (111 ∷ 107 ∷ []) ++ end_text v s.position s.steps
+  pub answer_ok : (v : ℕ) (s : Progress) → reply ≡ Replies.Ok v s → answer_text (reply_is reply) ≡ (111 ∷ 107 ∷ []) ++ end_text v s.position s.steps
   unfolding answer_text status_text
   answer_ok v s e = rw e refl
 
-  pub answer-tab : (d : DocNo) (f : FrameNo) (s : Stand) → reply ≡ Replies.Tab d f s → answer_text (reply_is reply) ≡ tab_text d.0 f.0 s.position s.steps
+  pub answer-tab : (d : DocNo) (f : FrameNo) (s : Progress) → reply ≡ Replies.Tab d f s → answer_text (reply_is reply) ≡ tab_text d.0 f.0 s.position s.steps
   unfolding answer_text
   answer-tab d f s e = rw e refl
 
-  pub answer-no : (r : Refusal) (s : Stand) → reply ≡ Replies.No r s → answer_text (reply_is reply) ≡ denied_text (number_of r) (carried_by r) s.position s.steps
+  pub answer-no : (r : Refusal) (s : Progress) → reply ≡ Replies.No r s → answer_text (reply_is reply) ≡ denied_text (number_of r) (carried_by r) s.position s.steps
   unfolding answer_text
   answer-no r s e = rw e refl
 

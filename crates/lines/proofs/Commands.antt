@@ -89,29 +89,32 @@ module _ (line rest : List ℕ) (k : Option ℕ) where
   unfolding worded
   worded_nav o h e = rw (lacks open_word line o, found nav_word line rest h, e, h.1) refl
 
-  pub other_drop : Found drop_word line rest → k ≡ numeral 4294967295 rest → dropping k ≡ other_word line
-  unfolding other_word
-  other_drop h e = rw (found drop_word line rest h, e, h.1) refl
+module _ (line : List ℕ) (o : Lacks open_word line) (n : Lacks nav_word line) where
+  pub worded_go : (rest : List ℕ) → Found go_word line rest → going rest ≡ worded line
+  unfolding worded
+  worded_go rest h = rw (lacks open_word line o, lacks nav_word line n, found go_word line rest h, h.1) refl
 
-  pub other_replace : Lacks drop_word line → Found replace_word line rest → k ≡ numeral 4294967295 rest → replacement k ≡ other_word line
-  unfolding other_word
-  other_replace d h e = rw (lacks drop_word line d, found replace_word line rest h, e, h.1) refl
+  module _ (g : Lacks go_word line) where
+    others : other_word line ≡ worded line
+    unfolding worded
+    others = rw (lacks open_word line o, lacks nav_word line n, lacks go_word line g) refl
+
+    pub worded_drop : (rest : List ℕ) (k : Option ℕ) → Found drop_word line rest → k ≡ numeral 4294967295 rest → dropping k ≡ worded line
+    unfolding other_word
+    worded_drop rest k h e = rw (← others, found drop_word line rest h, e, h.1) refl
+
+    module _ (d : Lacks drop_word line) where
+      pub worded_replace : (rest : List ℕ) (k : Option ℕ) → Found replace_word line rest → k ≡ numeral 4294967295 rest → replacement k ≡ worded line
+      unfolding other_word
+      worded_replace rest k h e = rw (← others, lacks drop_word line d, found replace_word line rest h, e, h.1) refl
+
+      pub worded_tab : Lacks replace_word line → (b : Bool) → b ≡ pointwise eqb line tab_word → command_is (then_some b Tab) ≡ worded line
+      unfolding other_word
+      worded_tab r b e =
+          rw (← others, lacks drop_word line d, lacks replace_word line r, e, tab_is line)
+          (test (tab? line) (λ t. rw t refl) (λ f. rw f refl))
 
 module _ (line : List ℕ) where
-  pub worded_go : (rest : List ℕ) → Lacks open_word line → Lacks nav_word line → Found go_word line rest → going rest ≡ worded line
-  unfolding worded
-  worded_go rest o n h = rw (lacks open_word line o, lacks nav_word line n, found go_word line rest h, h.1) refl
-
-  pub worded_other : Lacks open_word line → Lacks nav_word line → Lacks go_word line → other_word line ≡ worded line
-  unfolding worded
-  worded_other o n g = rw (lacks open_word line o, lacks nav_word line n, lacks go_word line g) refl
-
-  pub other_tab : (b : Bool) → Lacks drop_word line → Lacks replace_word line → b ≡ pointwise eqb line tab_word → command_is (then_some b Tab) ≡ other_word line
-  unfolding other_word
-  other_tab b d r e =
-      rw (lacks drop_word line d, lacks replace_word line r, e, tab_is line)
-      (test (tab? line) (λ t. rw t refl) (λ f. rw f refl))
-
   pub parse_long : 64 < length line → Command.bad ≡ parse line
   unfolding parse
   parse_long l = rw (lt-ltb 64 (length line) l) refl
