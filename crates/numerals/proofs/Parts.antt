@@ -1,14 +1,17 @@
 -- The saved form and its parts: how long they are, and that they are written once their parts are. Assumes nothing.
-use Prim.Native.Nat.{ℕ, ◌+◌, ◌*◌}
+use Prim.Native.Nat.{ℕ, ◌+◌, ◌-◌, ◌*◌, ◌/◌, ◌%◌, ◌^◌, ◌<◌, ◌≤◌}
 use mathlib.Core.List.{List, [], ◌∷◌, ◌++◌, flat_map, append_assoc}
-use mathlib.Core.Path.{◌≡◌, refl}
+use mathlib.Core.Path.{◌≡◌, refl, ap, ◌∙◌}
 use native.Mathlib.Omega.{arith}
 use lib.ListN.{length, length-append}
+use borrow.Rule.Slice.PartMut.{put_mid}
 use Rattle.rules.specs.Rows.{Row, Table, doc_at}
 use Rattle.rules.specs.Moves.{frames}
+use Rattle.rules.specs.Words.{put}
 use Rattle.rules.specs.Saved.{number, contents, saved_with, entry, body, saved}
 use Rattle.laws.specs.Writes.{Wrote}
 use Rattle.laws.proofs.Writes.{wrote_then}
+use Rattle.writes.proofs.Parts.{put_part}
 use Rattle.numerals.specs.Lines.{head}
 
 -- HOW LONG
@@ -32,6 +35,13 @@ unfolding saved_with number
 saved-parts t = let h = length-append (flat_map (contents t.rows) (frames t)) (flat_map (body t.rows) (frames t)) in omega arith
 
 -- WRITTEN
+
+-- The four bytes of a number, over the part that they take.
+pub number_wrote : (old new : List ℕ) (at x : ℕ) → x < 2 ^ 32 → at + 4 ≤ length old → new ≡ (x / 16777216 % 256 ∷ x / 65536 % 256 ∷ x / 256 % 256 ∷ x % 256 ∷ []) → Wrote old at (number x) (put_mid at (at + 4 - at) old new) (at + 4)
+unfolding number
+number_wrote old new at x b room e =
+    let n : new ≡ number x = e ∙ ap (λ d. d ∷ x / 65536 % 256 ∷ x / 256 % 256 ∷ x % 256 ∷ []) (omega arith) in
+    record { list = put_part old new at (at + 4) (omega arith) room (ap length n ∙ omega arith) ∙ ap (put old at) n; past = refl }
 
 -- A row's entry: its document, and behind that its place.
 pub entry-wrote : (rows : List Row) (i d at p q : ℕ) (b0 b1 b2 : List ℕ) → d ≡ doc_at rows i → Wrote b0 at (number d) b1 p → Wrote b1 p (number i) b2 q → Wrote b0 at (entry rows i) b2 q

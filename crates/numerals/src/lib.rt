@@ -15,10 +15,7 @@ pub fn put_number(bytes: &mut [u8], at: usize, x: u32) -> usize
     requires { at + 4 ≤ length bytes.old }
     ensures { Wrote bytes.old at (number x) bytes.new result × (result ≡ at + 4) }
 {
-    bytes[at] = (x / 16777216) as u8;
-    bytes[at + 1] = (x / 65536 % 256) as u8;
-    bytes[at + 2] = (x / 256 % 256) as u8;
-    bytes[at + 3] = (x % 256) as u8;
+    bytes[at..at + 4].copy_from_slice(&x.to_be_bytes());
     at + 4
 }
 

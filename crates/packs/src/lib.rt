@@ -1,7 +1,7 @@
 // Closing gaps in place: rows that stay are moved down over those that go, and the record ends after the last of them. What every removal has in common.
 #![tactic(auto)]
 
-ghost use Rattle.std.specs.Prelude.{◌≢◌, ◌≡◌, true, false, cond, ◌+◌, ◌-◌, ◌*◌, ◌<◌, ◌≤◌, length, replicate};
+ghost use Rattle.std.specs.Prelude.{◌≢◌, ◌≡◌, true, false, ◌+◌, ◌-◌, ◌*◌, ◌<◌, ◌≤◌, length, replicate};
 ghost use Rattle.std.proofs.Math.Bool.{So};
 ghost use Rattle.rules.specs.Below.{some_below};
 ghost use Rattle.rules.specs.Rows.{doc_at, parent_at, is_doc};
@@ -10,7 +10,6 @@ ghost use Rattle.reads.specs.Within.{Before, Within};
 ghost use Rattle.packs.specs.Packing.{doc_kept, parent_kept, last_parent, Moved, Knows, Turn, ended};
 
 use base::{DocNo, FrameNo, RowPlace};
-use reads::{Found, NONE};
 
 // Whether a row has no parent, or one of the first k rows holds it.
 pub fn parent_kept(words: &[u32], at: RowPlace, k: usize) -> bool
@@ -18,13 +17,7 @@ pub fn parent_kept(words: &[u32], at: RowPlace, k: usize) -> bool
     ensures { result ≡ parent_kept (rows_of words.now) k at.0 }
 {
     let up = reads::parent(words, at);
-    if up.0 == NONE {
-        return true;
-    }
-    match reads::find_below(words, RowPlace(k), up) {
-        Found::At(_) => true,
-        Found::Nothing => false,
-    }
+    up == DocNo::NONE || reads::find_below(words, RowPlace(k), up).is_some()
 }
 
 // The same, where one document is known to be none or held by the first k rows: a row with it for its parent needs no look.
@@ -32,11 +25,7 @@ pub fn parent_known(words: &[u32], at: RowPlace, k: usize, found: DocNo) -> bool
     requires { Within words.now at.0 × (k ≤ at.0) × (doc_kept (rows_of words.now) k found.0 ≡ true) }
     ensures { result ≡ parent_kept (rows_of words.now) k at.0 }
 {
-    let up = reads::parent(words, at);
-    if up.0 == found.0 {
-        return true;
-    }
-    parent_kept(words, at, k)
+    reads::parent(words, at) == found || parent_kept(words, at, k)
 }
 
 // The parent of the last of the first k rows; where there is none, another document.
@@ -45,9 +34,10 @@ fn last_parent(words: &[u32], k: usize, other: DocNo) -> DocNo
     ensures { result.0 ≡ last_parent (rows_of words.now) k other.0 }
 {
     if k == 0 {
-        return other;
+        other
+    } else {
+        reads::parent(words, RowPlace(k - 1))
     }
-    reads::parent(words, RowPlace(k - 1))
 }
 
 // Moves a row down behind the k rows kept so far if it stays. How many are kept then.
@@ -58,11 +48,8 @@ pub fn keep_row(words: &mut [u32], at: RowPlace, k: usize, stays: bool) -> usize
     if !stays {
         return k;
     }
-    let document = reads::document(words, at);
-    let frame = reads::frame(words, at);
-    let parent = reads::parent(words, at);
-    let shown = reads::shown(words, at);
-    writes::put_row(words, RowPlace(k), document, frame, parent, shown);
+    let row = reads::row(words, at);
+    writes::put_row(words, RowPlace(k), row);
     k + 1
 }
 
@@ -75,27 +62,20 @@ pub struct Keeping {
     pub missed: DocNo,
 }
 
-// One document or the other.
-fn either(first: bool, a: DocNo, b: DocNo) -> DocNo
-    ensures { result.0 ≡ cond first a.0 b.0 }
-{
-    if first { a } else { b }
-}
-
 // A turn at a row that does not pass and has another parent than the last row kept: it goes if its parent went, else that of the last row kept is the one found.
 fn turn_other(words: &mut [u32], at: RowPlace, last: DocNo, kept: Keeping) -> Keeping
     requires { Within words.old at.0 × Knows (rows_of words.old) at.0 kept × (last.0 ≡ last_parent (rows_of words.old) kept.rows kept.found.0) × (parent_at (rows_of words.old) at.0 ≢ last.0) }
     ensures { Turn false words.old at.0 kept result words.new }
 {
     let up = reads::parent(words, at);
-    let upheld = parent_known(words, at, kept.rows, kept.found);
-    let rows = keep_row(words, at, kept.rows, upheld);
-    let found = either(upheld, last, kept.found);
-    let missed = either(upheld, kept.missed, up);
+    if !parent_known(words, at, kept.rows, kept.found) {
+        return Keeping { missed: up, ..kept };
+    }
+    let rows = keep_row(words, at, kept.rows, true);
     Keeping {
         rows,
-        found,
-        missed,
+        found: last,
+        ..kept
     }
 }
 
@@ -109,21 +89,15 @@ pub fn turn(words: &mut [u32], at: RowPlace, passes: bool, kept: Keeping) -> Kee
         return kept;
     }
     let up = reads::parent(words, at);
-    if up.0 == kept.missed.0 {
+    if up == kept.missed {
         return kept;
     }
     let last = last_parent(words, kept.rows, kept.found);
-    if up.0 != last.0 {
+    if up != last {
         return turn_other(words, at, last, kept);
     }
     let rows = keep_row(words, at, kept.rows, true);
-    let found = kept.found;
-    let missed = kept.missed;
-    Keeping {
-        rows,
-        found,
-        missed,
-    }
+    Keeping { rows, ..kept }
 }
 
 // The row that holds a document, where one of the first k rows does.
@@ -131,10 +105,7 @@ pub fn place_before(words: &[u32], k: usize, d: DocNo) -> RowPlace
     requires { Before words.now k × So (some_below k (is_doc (rows_of words.now) d.0)) }
     ensures { (result.0 < k) × (doc_at (rows_of words.now) result.0 ≡ d.0) }
 {
-    match reads::find_below(words, RowPlace(k), d) {
-        Found::At(at) => at,
-        Found::Nothing => RowPlace(0),
-    }
+    reads::find_below(words, RowPlace(k), d).unwrap_or(RowPlace(0))
 }
 
 // Makes the words of the rows past the first k zero, up to n rows; none where n is no more.

@@ -7,5 +7,5 @@ use Rattle.packs.proofs.last_parent.Goals as goal
 pub returns-then-k-eq0 : goal.returns-then-k-eq0
 returns-then-k-eq0 c = last_none (rows_of c.args.words.now) _ _ _ c.if-k-eq0.true refl
 
-pub returns : goal.returns
-returns c = last_some (rows_of c.args.words.now) _ _ _ c.if-k-eq0.false c.parent.ensures
+pub returns-else-k-eq0 : goal.returns-else-k-eq0
+returns-else-k-eq0 c = last_some (rows_of c.args.words.now) _ _ _ c.if-k-eq0.false c.parent.ensures
