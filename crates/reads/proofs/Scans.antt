@@ -73,6 +73,11 @@ module _ (p : ℕ → Bool) where
   pub none_found : (n : ℕ) (r : Option RowPlace) → r ≡ found_below p n → r ≡ None → false ≡ some_below n p
   none_found n r e f = sym (found_nothing n (sym e ∙ f))
 
+  -- Whether something was found.
+  pub found-told : (n : ℕ) (r : Option RowPlace) → r ≡ found_below p n → is_some r ≡ some_below n p
+  found-told n None e = none_found n None e refl
+  found-told n (Some q) e = some-found n (Some q) q e refl
+
 -- Tests that agree on the places before n find the same.
 found-same : (p q : ℕ → Bool) (n : ℕ) → ((k : ℕ) → k < n → p k ≡ q k) → found_below p n ≡ found_below q n
 unfolding found_below
@@ -133,8 +138,7 @@ module _ (fr : ℕ → ℕ) (i : ℕ) where
   -- A row is found where the row is a step.
   pub step-found : (r : Option RowPlace) (b : Bool) → r ≡ found_below (same fr i) i → b ≡ is_some r → b ≡ step fr i
   unfolding step
-  step-found None b e f = f ∙ none_found (same fr i) i None e refl
-  step-found (Some q) b e f = f ∙ some-found (same fr i) i (Some q) q e refl
+  step-found r b e f = f ∙ found-told (same fr i) i r e
 
   pub first_found : (r : Option RowPlace) → r ≡ found_below (same fr i) i → r ≡ None → false ≡ step fr i
   unfolding step
