@@ -51,12 +51,11 @@ put_part l vs part at h e =
     rw (e, drop-drop (at + k - at) at l, f) (sym (sets-eq vs l at h ∙ append_assoc (take at l) vs (drop (at + k) l)))
 
 -- A decimal as the code writes it.
-pub wrote_one : (old new : List ℕ) (at n g next : ℕ) → n < 10 → g ≡ 48 + n → Wrote old at (g ∷ []) new next → Wrote old at (decimal n) new next
-wrote_one old new at n g next l e w = rw (decimal-one n l, ← e) w
+pub wrote_one : (old new : List ℕ) (at n next : ℕ) → n < 10 → Wrote old at ((48 + n) ∷ []) new next → Wrote old at (decimal n) new next
+wrote_one old new at n next l w = rw (decimal-one n l) w
 
-pub wrote-more : (old mid new : List ℕ) (at n g k next : ℕ) → 10 ≤ n → g ≡ 48 + n % 10 → Wrote old at (decimal (n / 10)) mid k → Wrote mid k (g ∷ []) new next → Wrote old at (decimal n) new next
-wrote-more old mid new at n g k next l e v w =
-    subst (λ t. Wrote old at t new next) (ap (λ d. decimal (n / 10) ++ (d ∷ [])) e ∙ sym (decimal-more n l)) (wrote_then old mid new _ _ at k next v w)
+pub wrote-more : (old mid new : List ℕ) (at n k next : ℕ) → 10 ≤ n → Wrote old at (decimal (n / 10)) mid k → Wrote mid k ((48 + n % 10) ∷ []) new next → Wrote old at (decimal n) new next
+wrote-more old mid new at n k next l v w = subst (λ t. Wrote old at t new next) (sym (decimal-more n l)) (wrote_then old mid new _ _ at k next v w)
 
 -- The room that a decimal takes, for the code's two ways.
 module _ (at n m : ℕ) (room : at + length (decimal n) ≤ m) where
