@@ -1,7 +1,10 @@
 -- What the answer of a derived comparison of two numbers says of them. Assumes nothing.
 use Rattle.std.proofs.Common.{ℕ, Bool, true, false, refl, true≢false, not, ◌≡◌, ◌<◌, ◌≤◌, nat_eq, sym, ap, ◌∙◌}
 use Rattle.std.specs.Ordering.{is_lt, is_le, nat_cmp}
-use Rattle.std.proofs.lemmas.Bool.{eqb-true, eq-eqb, not-false}
+use mathlib.Core.Logic.{⊎_elim}
+use lib.Dec.{ltb, leb}
+use borrow.Author.Tests.{lt-ltb, le-ltb, le-leb, lt-leb}
+use Rattle.std.proofs.lemmas.Bool.{eqb-true, eq-eqb, not-false, cases_Bool}
 use Rattle.std.proofs.lemmas.Map.Keys.{ge_from_not_lt, le_from_is_le}
 use Rattle.std.proofs.lemmas.Cmp.{by_ranked, ranked}
 
@@ -37,3 +40,10 @@ module _ (a b : ℕ) (r : Bool) where
   -- They do not.
   pub agree : r ≡ not (nat_eq a b) → r ≡ false → a ≡ b
   agree e t = eqb-true a b (not-false _ (sym e ∙ t))
+
+  -- The answer, as the test of numbers has it.
+  pub is-lower : r ≡ is_lt (nat_cmp a b) → r ≡ ltb a b
+  is-lower e = ⊎_elim (λ t. t ∙ sym (lt-ltb a b (lower e t))) (λ f. f ∙ sym (le-ltb a b (not-lower e f))) (cases_Bool r)
+
+  pub is-upto : r ≡ is_le (nat_cmp a b) → r ≡ leb a b
+  is-upto e = ⊎_elim (λ t. t ∙ sym (le-leb a b (not-higher e t))) (λ f. f ∙ sym (lt-leb a b (higher e f))) (cases_Bool r)

@@ -135,3 +135,7 @@ module _ (fr : ℕ → ℕ) (i : ℕ) where
   unfolding step
   step-found None b e f = f ∙ none_found (same fr i) i None e refl
   step-found (Some q) b e f = f ∙ some-found (same fr i) i (Some q) q e refl
+
+  pub first_found : (r : Option RowPlace) → r ≡ found_below (same fr i) i → r ≡ None → false ≡ step fr i
+  unfolding step
+  first_found r e f = none_found (same fr i) i r e f

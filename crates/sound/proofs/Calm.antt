@@ -21,8 +21,7 @@ use Rattle.windows.proofs.Counted.{shown_step_in}
 use Rattle.windows.proofs.Roots.{root-kin}
 use Rattle.reads.specs.Under.{Under}
 use Rattle.reads.specs.Found.{found_below}
-use Rattle.reads.specs.declared.Found.{Found}
-use Rattle.reads.specs.declared.Found.TheVariants.{At, Nothing}
+use Rattle.std.specs.Prelude.{Option, None, Some}
 use Rattle.reads.proofs.Scans.{first_found}
 use Rattle.members.specs.Members.{Kin, Recalls, Sided}
 use Rattle.members.specs.declared.Member.{Member}
@@ -31,18 +30,16 @@ use Rattle.sound.specs.Pass.{Passed, StepAfter}
 use Rattle.sound.specs.Looks.{step_from, clear, Sees, Looks}
 use Rattle.sound.specs.declared.Pass.{Pass}
 use Rattle.sound.specs.declared.Seen.{Seen}
-use Rattle.sound.specs.declared.Look.{Look}
-use Rattle.sound.specs.declared.Look.TheVariants.{Breaks, Goes}
 use Rattle.sound.proofs.Passes.{step_after}
 use Rattle.sound.proofs.Quick.{calm-is, comes_of, comes-whose, tree-kept}
 
 module _ (rows : List Row) (i : ℕ) where
   -- The scan over a row's own frame finds the row before it, or that it is the first.
-  module _ (r : Found) (e : r ≡ found_below (same (frame_at rows) i) i) where
-    pub own-after : (j : RowPlace) → r ≡ At j → StepAfter rows i j.0
+  module _ (r : Option RowPlace) (e : r ≡ found_below (same (frame_at rows) i) i) where
+    pub own-after : (j : RowPlace) → r ≡ Some j → StepAfter rows i j.0
     own-after j h = step_after rows i r j e h
 
-    pub own_first : r ≡ Nothing → is_step rows i ≡ false
+    pub own_first : r ≡ None → is_step rows i ≡ false
     own_first h = sym (first_found (frame_at rows) i r e h)
 
   -- A frame's first row does not come, and a step does after a shown row.
@@ -159,11 +156,11 @@ module _ (rows : List Row) where
 
   -- At the window of one that comes.
   module _ (i g : ℕ) (c : So (comes rows i)) (ge : g ≡ root_at rows i) (b : Bool) (e : b ≡ step_from g rows i) where
-    pub look-breaks : b ≡ true → Looks rows i Breaks
+    pub look-breaks : b ≡ true → Looks rows i None
     unfolding clear
     look-breaks t = rw (c, ← ge, sym e ∙ t) refl
 
-    pub look-goes : (seen : Seen) → seen.root.0 ≡ g → Recalls (root_at rows i) rows seen.known → b ≡ false → Looks rows i (Goes seen)
+    pub look-goes : (seen : Seen) → seen.root.0 ≡ g → Recalls (root_at rows i) rows seen.known → b ≡ false → Looks rows i (Some seen)
     look-goes seen se w f = (
       clear_in i (subst (λ x. step_from x rows i ≡ false) ge (sym e ∙ f)),
       record { recalls = subst (λ x. Recalls x rows seen.known) (sym (se ∙ ge)) w; none_from = rw se (from-later g rows i (suc i) (omega arith) (sym e ∙ f)) },
@@ -174,21 +171,21 @@ module _ (rows : List Row) where
     on : (next : Seen) → next ≡ record { root = seen.root; known = m.known } → Sees rows (suc i) next
     on next e = rw e (record { recalls = told.recalls; none_from = from-later seen.root.0 rows i (suc i) (omega arith) w.none_from })
 
-    pub look-inside : (next : Seen) → next ≡ record { root = seen.root; known = m.known } → m.inside ≡ true → Looks rows i (Goes next)
+    pub look-inside : (next : Seen) → next ≡ record { root = seen.root; known = m.known } → m.inside ≡ true → Looks rows i (Some next)
     look-inside next e t = (clear_in i (subst (λ x. step_from x rows i ≡ false) (sym (eqb-true _ _ (sym told.inside_is ∙ t))) w.none_from), on next e)
 
-    pub look-past : (next : Seen) → next ≡ record { root = seen.root; known = m.known } → (b : Bool) → b ≡ comes rows i → b ≡ false → Looks rows i (Goes next)
+    pub look-past : (next : Seen) → next ≡ record { root = seen.root; known = m.known } → (b : Bool) → b ≡ comes rows i → b ≡ false → Looks rows i (Some next)
     unfolding clear
     look-past next e b c f = (rw (sym c ∙ f) refl, on next e)
 
   -- What the look found.
-  module _ (i : ℕ) (r : Look) (w : Looks rows i r) where
-    pub look-broke : r ≡ Breaks → i < length rows → false ≡ all_below (length rows) (calm rows)
+  module _ (i : ℕ) (r : Option Seen) (w : Looks rows i r) where
+    pub look-broke : r ≡ None → i < length rows → false ≡ all_below (length rows) (calm rows)
     look-broke e l = all-fails (clear rows) (length rows) i false l (sym (subst (Looks rows i) e w)) refl ∙ clear-calm
 
-    pub look-went : (seen : Seen) → r ≡ Goes seen → all_below i (clear rows) ≡ true → (all_below (i + 1) (clear rows) ≡ true) × Sees rows (i + 1) seen
+    pub look-went : (seen : Seen) → r ≡ Some seen → all_below i (clear rows) ≡ true → (all_below (i + 1) (clear rows) ≡ true) × Sees rows (i + 1) seen
     look-went seen e h =
-        let o : Looks rows i (Goes seen) = subst (Looks rows i) e w in
+        let o : Looks rows i (Some seen) = subst (Looks rows i) e w in
         (all_more (clear rows) i true h (sym o.0) refl, rw (add-one i) o.1)
 
 -- The rows that the test keeps are a tree: those beneath one document are of one window.

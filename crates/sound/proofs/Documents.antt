@@ -16,8 +16,7 @@ use Rattle.laws.proofs.Loops.{all-flag}
 use Rattle.laws.proofs.Reflect.{s2-is}
 use Rattle.laws.proofs.Tree.{rising-S2}
 use Rattle.reads.specs.Found.{found_below}
-use Rattle.reads.specs.declared.Found.{Found}
-use Rattle.reads.specs.declared.Found.TheVariants.{At, Nothing}
+use Rattle.std.specs.Prelude.{Option, None, Some}
 use Rattle.reads.proofs.Scans.{found_at, found_nothing}
 use Rattle.sound.specs.Quick.{ordered, alone, Spans}
 
@@ -65,12 +64,12 @@ module _ (rows : List Row) (i low high d : ℕ) (inside : i < length rows) (span
   alone-above l = alone-by (λ k a b f. omega arith)
 
   -- By a scan from the end of the rows.
-  module _ (n : ℕ) (all : n ≡ length rows) (r : Found) (f : r ≡ found_below (is_doc rows d) n) where
-    pub alone-found : (q : RowPlace) → r ≡ At q → eqb q.0 i ≡ alone rows i
+  module _ (n : ℕ) (all : n ≡ length rows) (r : Option RowPlace) (f : r ≡ found_below (is_doc rows d) n) where
+    pub alone-found : (q : RowPlace) → r ≡ Some q → eqb q.0 i ≡ alone rows i
     unfolding alone
     alone-found q h = rw (← e, ← all, (found_at (is_doc rows d) n q (sym f ∙ h)).1) refl
 
-    pub alone-lost : r ≡ Nothing → false ≡ alone rows i
+    pub alone-lost : r ≡ None → false ≡ alone rows i
     alone-lost h = absurd (clash (some_in (is_doc rows d) n {k = i} (omega arith) (eq-eqb (doc_at rows i) d (sym e))) (found_nothing (is_doc rows d) n (sym f ∙ h)))
 
 -- FROM THE LAST ROW TO THE FIRST

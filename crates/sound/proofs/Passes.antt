@@ -20,8 +20,7 @@ use Rattle.rules.specs.Words.{capacity, rows_of}
 use Rattle.rules.specs.Sound.{s2?, zero?, s8?}
 use Rattle.laws.proofs.Words.{rows-length}
 use Rattle.reads.specs.Found.{found_below}
-use Rattle.reads.specs.declared.Found.{Found}
-use Rattle.reads.specs.declared.Found.TheVariants.{At, Nothing}
+use Rattle.std.specs.Prelude.{Option, None, Some}
 use Rattle.laws.proofs.Tests.{test, clash, off, or_left, or_right, or-false, some_in, some_out, all_in, all-out, count_yes, count_no}
 use Rattle.reads.specs.Within.{Within}
 use Rattle.reads.specs.Under.{Under}
@@ -30,7 +29,6 @@ use Rattle.reads.proofs.Scans.{found_at, found-lower, found_nothing, under_more}
 use Rattle.sound.specs.Quick.{bounded, headed, linked, comes, quiet, begins, row_fine, evenly, kept?}
 use Rattle.sound.specs.Pass.{Passed, Onward, Opens, StepAfter, TellsTo, Tells, late_of}
 use Rattle.sound.specs.declared.Pass.{Pass}
-use Rattle.sound.specs.declared.Tested.TheVariants.{Holds}
 
 module _ (rows : List Row) (i : ℕ) where
   -- The parent is known, none, found, or not found.
@@ -42,11 +40,11 @@ module _ (rows : List Row) (i : ℕ) where
   unfolding headed
   headed-none up e z = sym (or_left (some_below i (is_doc rows (parent_at rows i))) (eq-eqb _ _ (sym e ∙ z)))
 
-  pub headed-found : (up : ℕ) (r : Found) (q : RowPlace) → up ≡ parent_at rows i → r ≡ found_below (is_doc rows up) i → r ≡ At q → true ≡ headed rows i
+  pub headed-found : (up : ℕ) (r : Option RowPlace) (q : RowPlace) → up ≡ parent_at rows i → r ≡ found_below (is_doc rows up) i → r ≡ Some q → true ≡ headed rows i
   unfolding headed
   headed-found up r q e f h = sym (or_right (eqb (parent_at rows i) none) (subst (λ d. some_below i (is_doc rows d) ≡ true) e (found_at (is_doc rows up) i q (sym f ∙ h)).0))
 
-  pub headed-lost : (up : ℕ) (r : Found) → up ≡ parent_at rows i → (up ≡ none → ⊥) → r ≡ found_below (is_doc rows up) i → r ≡ Nothing → false ≡ headed rows i
+  pub headed-lost : (up : ℕ) (r : Option RowPlace) → up ≡ parent_at rows i → (up ≡ none → ⊥) → r ≡ found_below (is_doc rows up) i → r ≡ None → false ≡ headed rows i
   unfolding headed
   headed-lost up r e ne f h =
       sym (rw (ne_eqb (parent_at rows i) none (λ z. ne (e ∙ z)), subst (λ d. some_below i (is_doc rows d) ≡ false) e (found_nothing (is_doc rows up) i (sym f ∙ h))) refl)
@@ -55,11 +53,11 @@ module _ (rows : List Row) (i : ℕ) where
   pub known-before : (up known : ℕ) → up ≡ known → some_below i (is_doc rows known) ≡ true → some_below i (is_doc rows up) ≡ true
   known-before up known e h = rw e h
 
-  pub found_before : (up : ℕ) (r : Found) (q : RowPlace) → r ≡ found_below (is_doc rows up) i → r ≡ At q → some_below i (is_doc rows up) ≡ true
+  pub found_before : (up : ℕ) (r : Option RowPlace) (q : RowPlace) → r ≡ found_below (is_doc rows up) i → r ≡ Some q → some_below i (is_doc rows up) ≡ true
   found_before up r q f h = (found_at (is_doc rows up) i q (sym f ∙ h)).0
 
   -- A step and a frame's first row.
-  pub step_after : (r : Found) (j : RowPlace) → r ≡ found_below (same (frame_at rows) i) i → r ≡ At j → StepAfter rows i j.0
+  pub step_after : (r : Option RowPlace) (j : RowPlace) → r ≡ found_below (same (frame_at rows) i) i → r ≡ Some j → StepAfter rows i j.0
   unfolding step row_before
   step_after r j e f = let q = found_at (same (frame_at rows) i) i j (sym e ∙ f) in record { step = q.0; prior = sym q.1; lower = found-lower (same (frame_at rows) i) i j (sym e ∙ f) }
 
@@ -187,14 +185,14 @@ module _ (rows : List Row) where
             }
 
         -- Some were upcoming before it.
-        pub step-late : (q : Pass) → p.late ≡ true → q ≡ late_of s p.upcoming p.begun p → TellsTo rows (i + 1) (linked rows i) (Holds q)
+        pub step-late : (q : Pass) → p.late ≡ true → q ≡ late_of s p.upcoming p.begun p → TellsTo rows (i + 1) (linked rows i) (Some q)
         step-late q t d =
             let late = some-grows (comes rows) i (sym r.late_is ∙ t) in
             let stays = earliest-stays (comes rows) i late in
             (linked-so, subst (Passed rows (i + 1)) (sym d) (ahead p.upcoming p.begun late (r.upcoming-is t ∙ sym stays) (r.begun-is t ∙ ap (count opens) (sym stays))))
 
         -- It is the first one.
-        pub step-turns : (at : RowPlace) (v : Bool) (q : Pass) → at.0 ≡ i → v ≡ is_shown rows j → p.late ≡ false → v ≡ true → q ≡ late_of s at p.frames p → TellsTo rows (i + 1) (linked rows i) (Holds q)
+        pub step-turns : (at : RowPlace) (v : Bool) (q : Pass) → at.0 ≡ i → v ≡ is_shown rows j → p.late ≡ false → v ≡ true → q ≡ late_of s at p.frames p → TellsTo rows (i + 1) (linked rows i) (Some q)
         step-turns at v q h c f t d =
             let late : some_below (i + 1) (comes rows) ≡ true = sym (late-step v c) ∙ rw (f, t) refl in
             let here : earliest (comes rows) (i + 1) ≡ i = earliest-stays (comes rows) i late ∙ earliest-none (comes rows) i (sym r.late_is ∙ f) in
@@ -202,7 +200,7 @@ module _ (rows : List Row) where
 
         -- It is taken.
         pub step-taken : (at : RowPlace) (v : Bool) → at.0 ≡ i → v ≡ is_shown rows j → p.late ≡ false → v ≡ false →
-            TellsTo rows (i + 1) (linked rows i) (Holds (record {
+            TellsTo rows (i + 1) (linked rows i) (Some (record {
               late = false;
               broken = p.broken;
               several = p.several;
@@ -354,7 +352,7 @@ module _ (rows : List Row) where
         pub pass-fails : v ≡ false → kept? rows next top ≡ false
         pass-fails f = pass-even even ∙ sym fit ∙ f
 
-        pub pass-holds : v ≡ true → Tells rows (kept? rows next top) (Holds p)
+        pub pass-holds : v ≡ true → Tells rows (kept? rows next top) (Some p)
         pass-holds t = (pass-even even ∙ sym fit ∙ t, subst (λ k. Passed rows k p) ends s)
 
 -- THE WORDS PAST THE ROWS

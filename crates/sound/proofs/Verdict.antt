@@ -16,17 +16,16 @@ use Rattle.laws.proofs.Reflect.{sound-is}
 use Rattle.sound.specs.Quick.{quiet, calm, kept?, quick?, firm?}
 use Rattle.sound.specs.Pass.{Passed, TellsTo, Tells}
 use Rattle.sound.specs.declared.Pass.{Pass}
-use Rattle.sound.specs.declared.Tested.{Tested}
-use Rattle.sound.specs.declared.Tested.TheVariants.{Fails, Holds}
+use Rattle.std.specs.Prelude.{Option, None, Some}
 use Rattle.sound.proofs.Quick.{quiet_calm, alone-quiet, quick-is}
 use Rattle.sound.proofs.Checks.{one-root}
 
 -- What was tested, by what the code found.
-module _ (rows : List Row) (i : ℕ) (b : Bool) (r : Tested) (told : TellsTo rows i b r) where
-  pub told-fails : r ≡ Fails → b ≡ false
+module _ (rows : List Row) (i : ℕ) (b : Bool) (r : Option Pass) (told : TellsTo rows i b r) where
+  pub told-fails : r ≡ None → b ≡ false
   told-fails e = subst (TellsTo rows i b) e told
 
-  pub told-holds : (p : Pass) → r ≡ Holds p → (b ≡ true) × Passed rows i p
+  pub told-holds : (p : Pass) → r ≡ Some p → (b ≡ true) × Passed rows i p
   told-holds p e = subst (TellsTo rows i b) e told
 
 -- S7, BY WHAT THE PASS KNOWS
@@ -69,7 +68,7 @@ module _ (words : List ℕ) where
   firm-stops z e f = rw (sym e ∙ f) (test (s1? (capacity words) (rows_of words)) (λ t. rw t refl) (λ t. rw t refl))
 
   -- What is left is S2 to S6.
-  pub firm-goes : (c n : ℕ) (z : Bool) (r : Tested) (top next : ℕ) → c ≡ capacity words → n ≡ length (rows_of words) → (n ≡ 0 → ⊥) → n ≤ c → z ≡ s8? words → z ≡ true → top ≡ (table_of words).next_frame → next ≡ (table_of words).next_doc →
+  pub firm-goes : (c n : ℕ) (z : Bool) (r : Option Pass) (top next : ℕ) → c ≡ capacity words → n ≡ length (rows_of words) → (n ≡ 0 → ⊥) → n ≤ c → z ≡ s8? words → z ≡ true → top ≡ (table_of words).next_frame → next ≡ (table_of words).next_doc →
       Tells (rows_of words) (kept? (rows_of words) next top) r → Tells (rows_of words) (firm? words) r
   unfolding firm?
   firm-goes c n z r top next ec en some fits e t te ne =

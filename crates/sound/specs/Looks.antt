@@ -1,5 +1,5 @@
 -- S7 as a walk over the rows tests it: from each row that comes on, no shown step of its window may stand. That this is S7 is `clear-calm`. Definitions.
-use Rattle.std.specs.Prelude.{ℕ, suc, Bool, false, not, ◌&&◌, List, ◌≡◌, leb, length}
+use Rattle.std.specs.Prelude.{ℕ, suc, Bool, false, not, ◌&&◌, List, Option, None, Some, ◌≡◌, leb, length}
 use Rattle.std.proofs.Math.Bool.{So}
 use Rattle.rules.specs.Below.{some_below}
 use Rattle.rules.specs.Rows.{Row}
@@ -8,8 +8,6 @@ use Rattle.windows.proofs.Counted.{shown_step_in}
 use Rattle.members.specs.Members.{Recalls}
 use Rattle.sound.specs.Quick.{comes}
 use Rattle.sound.specs.declared.Seen.{Seen}
-use Rattle.sound.specs.declared.Look.{Look}
-use Rattle.sound.specs.declared.Look.TheVariants.{Breaks, Goes}
 
 -- A shown step of window r stands at row i or later.
 unfoldable pub step_from : ℕ → List Row → ℕ → Bool
@@ -25,6 +23,6 @@ pub record Sees (rows : List Row) (i : ℕ) (seen : Seen) : Type 0 where
   pub none_from : step_from seen.root.0 rows i ≡ false
 
 -- What a look at row i finds.
-abbrev pub Looks : List Row → ℕ → Look → Type 0
-Looks rows i Breaks = clear rows i ≡ false
-Looks rows i (Goes seen) = So (clear rows i) × Sees rows (suc i) seen
+abbrev pub Looks : List Row → ℕ → Option Seen → Type 0
+Looks rows i None = clear rows i ≡ false
+Looks rows i (Some seen) = So (clear rows i) × Sees rows (suc i) seen

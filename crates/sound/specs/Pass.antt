@@ -1,5 +1,5 @@
 -- What the pass of the test has seen. Definitions.
-use Rattle.std.specs.Prelude.{ℕ, ◌+◌, ◌≤◌, ◌<◌, Bool, true, false, not, ◌||◌, List, ◌≡◌, eqb, ltb, length}
+use Rattle.std.specs.Prelude.{ℕ, ◌+◌, ◌≤◌, ◌<◌, Bool, true, false, not, ◌||◌, List, Option, None, Some, ◌≡◌, eqb, ltb, length}
 use Rattle.std.proofs.Math.Bool.{So}
 use Rattle.base.specs.declared.RowPlace.{RowPlace}
 use Rattle.rules.specs.Below.{some_below, all_below, count, earliest, latest}
@@ -9,8 +9,6 @@ use Rattle.rules.specs.Steps.{is_step}
 use Rattle.reads.specs.Under.{Under}
 use Rattle.sound.specs.Quick.{comes, quiet, begins, linked}
 use Rattle.sound.specs.declared.Pass.{Pass}
-use Rattle.sound.specs.declared.Tested.{Tested}
-use Rattle.sound.specs.declared.Tested.TheVariants.{Fails, Holds}
 
 -- p tells of the rows before i.
 pub record Passed (rows : List Row) (i : ℕ) (p : Pass) : Type 0 where
@@ -46,12 +44,12 @@ pub record StepAfter (rows : List Row) (i j : ℕ) : Type 0 where
   pub lower : j < i
 
 -- The test whose answer by definition is b fails, or it holds, and the pass tells of the rows before i.
-abbrev pub TellsTo : List Row → ℕ → Bool → Tested → Type 0
-TellsTo rows i b Fails = b ≡ false
-TellsTo rows i b (Holds p) = (b ≡ true) × Passed rows i p
+abbrev pub TellsTo : List Row → ℕ → Bool → Option Pass → Type 0
+TellsTo rows i b None = b ≡ false
+TellsTo rows i b (Some p) = (b ≡ true) × Passed rows i p
 
 -- The same of all rows.
-abbrev pub Tells : List Row → Bool → Tested → Type 0
+abbrev pub Tells : List Row → Bool → Option Pass → Type 0
 Tells rows = TellsTo rows (length rows)
 
 -- The pass with a step more whose flag is s, once some are upcoming: the first at this place, and so many frames had begun before it.

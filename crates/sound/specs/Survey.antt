@@ -1,17 +1,16 @@
 -- Refusals 1 and 2, or where the window stands, or that there are several. Definitions.
-use Rattle.std.specs.Prelude.{ℕ, ◌-◌, Bool, cond, List, ◌≡◌, eqb, length}
+use Rattle.std.specs.Prelude.{ℕ, ◌-◌, Bool, cond, List, Result, ◌≡◌, eqb, length}
 use Rattle.std.proofs.Math.Bool.{So}
-use Rattle.base.specs.declared.Refusal.TheVariants.{ShortRecord, Unsound}
+use Rattle.base.specs.declared.Refusal.{Refusal}
 use Rattle.rules.specs.Below.{count, earliest, latest}
 use Rattle.rules.specs.Rows.{Row}
 use Rattle.rules.specs.Steps.{taken, upcoming, position, steps}
 use Rattle.rules.specs.Words.{rows_of}
-use Rattle.rules.specs.Calls.{short, unsound}
 use Rattle.sound.specs.Quick.{begins}
-use Rattle.sound.specs.Check.{Examined}
+use Rattle.sound.specs.Check.{checked, Examined}
 use Rattle.sound.specs.declared.Stand.{Stand}
-use Rattle.sound.specs.declared.Survey.{Survey}
-use Rattle.sound.specs.declared.Survey.TheVariants.{Stands, Several, No}
+use Rattle.sound.specs.declared.Windows.{Windows}
+use Rattle.sound.specs.declared.Windows.TheVariants.{One, Several}
 
 -- The frames, each of which has one row that is no step; the steps, the position, the earliest upcoming step and the latest taken one.
 abbrev pub stand_of : List Row → Stand
@@ -28,9 +27,12 @@ stand_of rows =
 abbrev pub alone? : List Row → Bool
 alone? rows = eqb (count (begins rows) (length rows)) 1
 
-unfoldable pub survey_of : List ℕ → Survey
-survey_of words =
-    cond (short words) (No ShortRecord) (cond (unsound words) (No Unsound) (cond (alone? (rows_of words)) (Stands (stand_of (rows_of words))) Several))
+-- The one window, where it stands, or that there are several.
+abbrev pub windows_of : List Row → Windows
+windows_of rows = cond (alone? rows) (One (stand_of rows)) Several
+
+abbrev pub survey_of : List ℕ → Result Windows Refusal
+survey_of words = checked (windows_of (rows_of words)) words
 
 -- The record is sound and has one window, which stands so.
 pub record Located (words : List ℕ) (s : Stand) : Type 0 where

@@ -34,7 +34,6 @@ ghost use Rattle.sound.specs.Survey.{alone?, stand_of, survey_of};
 
 use base::{DocNo, FrameNo, Refusal, RowPlace};
 use members::{Known, Member};
-use reads::{Found, NONE};
 
 // What a pass knows of the rows behind it: some upcoming, a shown step after an upcoming one, several root frames, how many shown, how many frames, a bound on the
 // frame numbers, the parent found last; of the first upcoming one its place and how many frames had begun before it; and the latest step before that.
@@ -52,19 +51,12 @@ pub struct Pass {
     pub last: RowPlace,
 }
 
-// What the test found: a rule that fails, or that all hold so far, with what the pass knows.
-#[derive(Clone, Copy)]
-enum Tested {
-    Fails,
-    Holds(Pass),
-}
-
 // Whether a row's frame number and flag are within their bounds.
 fn is_bounded(words: &[u32], at: RowPlace, top: FrameNo) -> bool
     requires { Within words.now at.0 }
     ensures { result ≡ bounded (rows_of words.now) top.0 at.0 }
 {
-    (reads::frame(words, at).0 < top.0) & (reads::shown(words, at) <= 1)
+    (reads::frame(words, at) < top) & (reads::shown(words, at) <= 1)
 }
 
 // Whether a row's document stands in no later row, where theirs are from `low` to `high`: one outside needs no scan.
@@ -73,29 +65,16 @@ fn is_alone(words: &[u32], at: RowPlace, n: usize, low: DocNo, high: DocNo) -> b
     ensures { result ≡ alone (rows_of words.now) at.0 }
 {
     let d = reads::document(words, at);
-    if d.0 < low.0 {
+    if d < low {
         return true;
     }
-    if high.0 < d.0 {
+    if high < d {
         return true;
     }
     match reads::find_below(words, RowPlace(n), d) {
-        Found::At(last) => last.0 == at.0,
-        Found::Nothing => false,
+        Some(last) => last == at,
+        None => false,
     }
-}
-
-// The lower and the higher of two document numbers.
-fn lowest(a: DocNo, b: DocNo) -> DocNo
-    ensures { result.0 ≡ min a.0 b.0 }
-{
-    if b.0 < a.0 { b } else { a }
-}
-
-fn highest(a: DocNo, b: DocNo) -> DocNo
-    ensures { result.0 ≡ max a.0 b.0 }
-{
-    if a.0 < b.0 { b } else { a }
 }
 
 // S2, from the last row to the first.
@@ -103,20 +82,18 @@ fn documents_apart(words: &[u32], n: usize, next: DocNo) -> bool
     requires { Within words.now 0 × (n ≡ length (rows_of words.now)) }
     ensures { result ≡ s2? (rows_of words.now) next.0 }
 {
-    let mut i = n - 1;
-    let mut low = reads::document(words, RowPlace(i));
+    let mut low = reads::document(words, RowPlace(n - 1));
     let mut high = low;
-    while 0 < i {
-        let at = RowPlace(i - 1);
+    for i in (0..n - 1).rev() {
+        let at = RowPlace(i);
         if !is_alone(words, at, n, low, high) {
             return false;
         }
         let d = reads::document(words, at);
-        low = lowest(low, d);
-        high = highest(high, d);
-        i -= 1;
+        low = low.min(d);
+        high = high.max(d);
     }
-    high.0 < next.0
+    high < next
 }
 
 // S2, where `last` is the last row's document and `rises` tells whether all rise.
@@ -125,7 +102,7 @@ fn documents_fit(words: &[u32], n: usize, rises: bool, last: DocNo, next: DocNo)
     ensures { result ≡ s2? (rows_of words.now) next.0 }
 {
     if rises {
-        return last.0 < next.0;
+        return last < next;
     }
     documents_apart(words, n, next)
 }
@@ -136,20 +113,17 @@ fn pass_start(words: &[u32]) -> Pass
     ensures { Passed (rows_of words.now) 1 result }
 {
     let at = RowPlace(0);
-    let shown = reads::shown(words, at) as usize;
-    let high = reads::frame(words, at);
-    let known = reads::document(words, at);
     Pass {
         late: false,
         broken: false,
         several: false,
-        shown,
+        shown: reads::shown(words, at) as usize,
         frames: 1,
-        high,
-        known,
-        upcoming: RowPlace(0),
+        high: reads::frame(words, at),
+        known: reads::document(words, at),
+        upcoming: at,
         begun: 0,
-        last: RowPlace(0),
+        last: at,
     }
 }
 
@@ -158,52 +132,36 @@ fn pass_late(shown: u32, upcoming: RowPlace, begun: usize, p: Pass) -> Pass
     requires { (p.shown ≤ 512) × (shown ≤ 1) }
     ensures { result ≡ late_of shown upcoming begun p }
 {
-    let high = p.high;
-    let known = p.known;
-    let last = p.last;
     Pass {
         late: true,
         broken: p.broken | (shown != 0),
-        several: p.several,
         shown: p.shown + shown as usize,
-        frames: p.frames,
-        high,
-        known,
         upcoming,
         begun,
-        last,
+        ..p
     }
 }
 
 // The pass with a step more, after the row before it in its frame.
-fn pass_step(words: &[u32], at: RowPlace, prior: RowPlace, p: Pass) -> Tested
+fn pass_step(words: &[u32], at: RowPlace, prior: RowPlace, p: Pass) -> Option<Pass>
     requires { Within words.now at.0 × Onward (rows_of words.now) at.0 p × StepAfter (rows_of words.now) at.0 prior.0 }
     ensures { TellsTo (rows_of words.now) (at.0 + 1) (linked (rows_of words.now) at.0) result }
 {
-    if reads::parent(words, at).0 != reads::parent(words, prior).0 {
-        return Tested::Fails;
+    if reads::parent(words, at) != reads::parent(words, prior) {
+        return None;
     }
     let shown = reads::shown(words, at);
     if p.late {
-        return Tested::Holds(pass_late(shown, p.upcoming, p.begun, p));
+        return Some(pass_late(shown, p.upcoming, p.begun, p));
     }
     if reads::is_shown(words, prior) {
-        return Tested::Holds(pass_late(shown, at, p.frames, p));
+        return Some(pass_late(shown, at, p.frames, p));
     }
-    let high = p.high;
-    let known = p.known;
-    let upcoming = p.upcoming;
-    Tested::Holds(Pass {
+    Some(Pass {
         late: false,
-        broken: p.broken,
-        several: p.several,
         shown: p.shown + shown as usize,
-        frames: p.frames,
-        high,
-        known,
-        upcoming,
-        begun: p.begun,
         last: at,
+        ..p
     })
 }
 
@@ -212,49 +170,42 @@ fn pass_open(words: &[u32], at: RowPlace, several: bool, known: DocNo, p: Pass) 
     requires { Within words.now at.0 × Onward (rows_of words.now) at.0 p × (is_step (rows_of words.now) at.0 ≡ false) × Opens (rows_of words.now) at.0 several known.0 p }
     ensures { Passed (rows_of words.now) (at.0 + 1) result }
 {
-    let high = reads::higher(p.high, reads::frame(words, at));
-    let upcoming = p.upcoming;
-    let last = p.last;
     Pass {
-        late: p.late,
-        broken: p.broken,
         several,
         shown: p.shown + reads::shown(words, at) as usize,
         frames: p.frames + 1,
-        high,
+        high: reads::higher(p.high, reads::frame(words, at)),
         known,
-        upcoming,
-        begun: p.begun,
-        last,
+        ..p
     }
 }
 
 // The pass with the first row of a frame more: a root row, one beneath the document found last, or one beneath a document that is looked for.
-fn pass_first(words: &[u32], at: RowPlace, p: Pass) -> Tested
+fn pass_first(words: &[u32], at: RowPlace, p: Pass) -> Option<Pass>
     requires { Within words.now at.0 × Onward (rows_of words.now) at.0 p × (0 < at.0) × (is_step (rows_of words.now) at.0 ≡ false) }
     ensures { TellsTo (rows_of words.now) (at.0 + 1) (linked (rows_of words.now) at.0) result }
 {
     let up = reads::parent(words, at);
-    if up.0 == NONE {
-        return Tested::Holds(pass_open(words, at, true, p.known, p));
+    if up == DocNo::NONE {
+        return Some(pass_open(words, at, true, p.known, p));
     }
-    if up.0 == p.known.0 {
-        return Tested::Holds(pass_open(words, at, p.several, up, p));
+    if up == p.known {
+        return Some(pass_open(words, at, p.several, up, p));
     }
     match reads::find_below(words, at, up) {
-        Found::At(_) => Tested::Holds(pass_open(words, at, p.several, up, p)),
-        Found::Nothing => Tested::Fails,
+        Some(_) => Some(pass_open(words, at, p.several, up, p)),
+        None => None,
     }
 }
 
 // The pass with one row more.
-fn pass_row(words: &[u32], at: RowPlace, p: Pass) -> Tested
+fn pass_row(words: &[u32], at: RowPlace, p: Pass) -> Option<Pass>
     requires { Within words.now at.0 × Onward (rows_of words.now) at.0 p × (0 < at.0) }
     ensures { TellsTo (rows_of words.now) (at.0 + 1) (linked (rows_of words.now) at.0) result }
 {
     match reads::previous_under(words, at, p.high) {
-        Found::At(prior) => pass_step(words, at, prior, p),
-        Found::Nothing => pass_first(words, at, p),
+        Some(prior) => pass_step(words, at, prior, p),
+        None => pass_first(words, at, p),
     }
 }
 
@@ -264,41 +215,37 @@ fn is_root(words: &[u32], top: FrameNo) -> bool
     ensures { result ≡ row_fine (rows_of words.now) top.0 0 }
 {
     let at = RowPlace(0);
-    is_bounded(words, at, top) & (reads::parent(words, at).0 == NONE)
+    is_bounded(words, at, top) & (reads::parent(words, at) == DocNo::NONE)
 }
 
 // S2 to S6: whether every row keeps the rules, as many are shown as there are frames, and the documents fit.
-fn rows_pass(words: &[u32], n: usize, top: FrameNo, next: DocNo) -> Tested
+fn rows_pass(words: &[u32], n: usize, top: FrameNo, next: DocNo) -> Option<Pass>
     requires { Within words.now 0 × (n ≡ length (rows_of words.now)) }
     ensures { Tells (rows_of words.now) (kept? (rows_of words.now) next.0 top.0) result }
 {
     if !is_root(words, top) {
-        return Tested::Fails;
+        return None;
     }
     let mut p = pass_start(words);
     let mut last = reads::document(words, RowPlace(0));
     let mut rises = true;
-    let mut i = 1;
-    while i < n {
-        if !is_bounded(words, RowPlace(i), top) {
-            return Tested::Fails;
+    for i in 1..n {
+        let at = RowPlace(i);
+        if !is_bounded(words, at, top) {
+            return None;
         }
-        let Tested::Holds(q) = pass_row(words, RowPlace(i), p) else {
-            return Tested::Fails;
-        };
-        let d = reads::document(words, RowPlace(i));
-        rises = rises & (last.0 < d.0);
+        p = pass_row(words, at, p)?;
+        let d = reads::document(words, at);
+        rises = rises & (last < d);
         last = d;
-        p = q;
-        i += 1;
     }
     if p.shown != p.frames {
-        return Tested::Fails;
+        return None;
     }
     if documents_fit(words, n, rises, last, next) {
-        Tested::Holds(p)
+        Some(p)
     } else {
-        Tested::Fails
+        None
     }
 }
 
@@ -308,8 +255,8 @@ fn comes_at(words: &[u32], at: RowPlace, high: FrameNo) -> bool
     ensures { result ≡ comes (rows_of words.now) at.0 }
 {
     match reads::previous_under(words, at, high) {
-        Found::At(prior) => reads::is_shown(words, prior),
-        Found::Nothing => false,
+        Some(prior) => reads::is_shown(words, prior),
+        None => false,
     }
 }
 
@@ -318,10 +265,10 @@ pub fn comes_in(words: &[u32], at: RowPlace, root: FrameNo) -> bool
     requires { Within words.now at.0 }
     ensures { result ≡ comes_in root.0 (rows_of words.now) at.0 }
 {
-    if !comes_at(words, at, FrameNo(NONE)) {
+    if !comes_at(words, at, FrameNo::NONE) {
         return false;
     }
-    reads::root_of(words, at).0 == root.0
+    reads::root_of(words, at) == root
 }
 
 // Whether a row is a shown step, where no earlier row has a frame number above `high`.
@@ -341,10 +288,8 @@ fn highest_upto(words: &[u32], at: RowPlace) -> FrameNo
     ensures { Under (frame_at (rows_of words.now)) (at.0 + 1) result.0 }
 {
     let mut high = reads::frame(words, at);
-    let mut i = 0;
-    while i < at.0 {
+    for i in 0..at.0 {
         high = reads::higher(high, reads::frame(words, RowPlace(i)));
-        i += 1;
     }
     high
 }
@@ -361,15 +306,13 @@ fn step_within(words: &[u32], at: RowPlace, high: FrameNo, root: FrameNo, known:
         };
     }
     let m = members::belongs(words, at, root, known);
-    let known = m.known;
     if !m.inside {
-        return Member {
-            inside: false,
-            known,
-        };
+        return m;
     }
-    let inside = reads::is_step(words, at, high);
-    Member { inside, known }
+    Member {
+        inside: reads::is_step(words, at, high),
+        ..m
+    }
 }
 
 // Whether a shown step of a window stands at a place or later.
@@ -380,15 +323,14 @@ fn step_from(words: &[u32], from: RowPlace, high: FrameNo, root: FrameNo, known:
     let n = rows::row_count(words);
     let mut bound = high;
     let mut mind = known;
-    let mut j = from.0;
-    while j < n {
-        let m = step_within(words, RowPlace(j), bound, root, mind);
+    for j in from.0..n {
+        let at = RowPlace(j);
+        let m = step_within(words, at, bound, root, mind);
         if m.inside {
             return true;
         }
-        bound = reads::higher(bound, reads::frame(words, RowPlace(j)));
+        bound = reads::higher(bound, reads::frame(words, at));
         mind = m.known;
-        j += 1;
     }
     false
 }
@@ -400,41 +342,36 @@ struct Seen {
     known: Known,
 }
 
-// What a walk finds at a row: a shown step at it or later, in the window of which it is an upcoming one, or none, with the window last looked at.
-#[derive(Clone, Copy)]
-enum Look {
-    Breaks,
-    Goes(Seen),
-}
-
-// A look at the window of a row that comes.
-fn look_on(words: &[u32], at: RowPlace, high: FrameNo) -> Look
+// A look at the window of a row that comes: nothing, where a shown step of it stands at the row or later, else the window, seen.
+fn look_on(words: &[u32], at: RowPlace, high: FrameNo) -> Option<Seen>
     requires { Within words.now at.0 × Under (frame_at (rows_of words.now)) at.0 high.0 × Kin (rows_of words.now) × So (comes (rows_of words.now) at.0) }
     ensures { Looks (rows_of words.now) at.0 result }
 {
     let root = reads::root_of(words, at);
     let known = members::known_beneath(words, at);
     if step_from(words, at, high, root, known) {
-        return Look::Breaks;
+        return None;
     }
-    Look::Goes(Seen { root, known })
+    Some(Seen { root, known })
 }
 
-// A look at a row: one of the window last looked at needs none.
-fn look_at(words: &[u32], at: RowPlace, high: FrameNo, seen: Seen) -> Look
+// A look at a row, in the same way: one of the window last looked at needs none, and the window stays that.
+fn look_at(words: &[u32], at: RowPlace, high: FrameNo, seen: Seen) -> Option<Seen>
     requires { Within words.now at.0 × Under (frame_at (rows_of words.now)) at.0 high.0 × Sees (rows_of words.now) at.0 seen }
     ensures { Looks (rows_of words.now) at.0 result }
 {
-    let root = seen.root;
-    let m = members::belongs(words, at, root, seen.known);
-    let known = m.known;
+    let m = members::belongs(words, at, seen.root, seen.known);
+    let next = Seen {
+        known: m.known,
+        ..seen
+    };
     if m.inside {
-        return Look::Goes(Seen { root, known });
+        return Some(next);
     }
     if comes_at(words, at, high) {
         return look_on(words, at, high);
     }
-    Look::Goes(Seen { root, known })
+    Some(next)
 }
 
 // S7, where `from` is the place of the first row that comes.
@@ -444,18 +381,16 @@ fn windows_calm(words: &[u32], from: RowPlace) -> bool
 {
     let n = rows::row_count(words);
     let mut high = highest_upto(words, from);
-    let Look::Goes(first) = look_on(words, from, high) else {
+    let Some(mut seen) = look_on(words, from, high) else {
         return false;
     };
-    let mut seen = first;
-    let mut i = from.0 + 1;
-    while i < n {
-        let Look::Goes(next) = look_at(words, RowPlace(i), high, seen) else {
+    for i in from.0 + 1..n {
+        let at = RowPlace(i);
+        let Some(next) = look_at(words, at, high, seen) else {
             return false;
         };
-        high = reads::higher(high, reads::frame(words, RowPlace(i)));
+        high = reads::higher(high, reads::frame(words, at));
         seen = next;
-        i += 1;
     }
     true
 }
@@ -479,33 +414,30 @@ fn rest_zero(words: &[u32], n: usize, c: usize) -> bool
     requires { (n ≡ length (rows_of words.now)) × (c ≡ capacity words.now) × (n ≤ c) }
     ensures { result ≡ s8? words.now }
 {
-    let end = 3 + 4 * c;
-    let mut k = 3 + 4 * n;
     let mut zero = true;
-    while k < end {
+    for k in 3 + 4 * n..3 + 4 * c {
         zero = zero & (words[k] == 0);
-        k += 1;
     }
     zero
 }
 
 // S1 to S6 and S8, with what the pass knows where they hold.
-fn test(words: &[u32]) -> Tested
+fn test(words: &[u32]) -> Option<Pass>
     ensures { Tells (rows_of words.now) (firm? words.now) result }
 {
     let c = rows::capacity(words);
     if c == 0 {
-        return Tested::Fails;
+        return None;
     }
     let n = rows::row_count(words);
     if n == 0 {
-        return Tested::Fails;
+        return None;
     }
     if c < n {
-        return Tested::Fails;
+        return None;
     }
     if !rest_zero(words, n, c) {
-        return Tested::Fails;
+        return None;
     }
     rows_pass(
         words,
@@ -520,8 +452,8 @@ pub fn sound(words: &[u32]) -> bool
     ensures { result ≡ sound? words.now }
 {
     match test(words) {
-        Tested::Fails => false,
-        Tested::Holds(p) => is_in_order(words, p),
+        Some(p) => is_in_order(words, p),
+        None => false,
     }
 }
 
@@ -532,24 +464,17 @@ fn is_short(words: &[u32]) -> bool
     words.len() < 7
 }
 
-// Whether a call may go on.
-#[derive(Clone, Copy)]
-pub enum Check {
-    Sound,
-    No(Refusal),
-}
-
 // Refusals 1 and 2, which nearly every call begins with.
-pub fn examine(words: &[u32]) -> Check
+pub fn examine(words: &[u32]) -> Result<(), Refusal>
     ensures { result ≡ check_of words.now }
 {
     if is_short(words) {
-        return Check::No(Refusal::ShortRecord);
+        return Err(Refusal::ShortRecord);
     }
     if !sound(words) {
-        return Check::No(Refusal::Unsound);
+        return Err(Refusal::Unsound);
     }
-    Check::Sound
+    Ok(())
 }
 
 // Where the window stands: how many frames and how many steps there are, how many of these are taken, the place of the earliest upcoming one (the rows' end where there is
@@ -563,57 +488,45 @@ pub struct Stand {
     pub last: RowPlace,
 }
 
-// One number where some step is upcoming, else the other.
-fn if_late(late: bool, a: usize, b: usize) -> usize
-    ensures { result ≡ cond late a b }
-{
-    if late { a } else { b }
-}
-
 // Where the one window of a sound record stands, by what the pass knows of all its rows.
 fn stand_of(words: &[u32], p: Pass) -> Stand
     requires { (sound? words.now ≡ true) × (alone? (rows_of words.now) ≡ true) × Passed (rows_of words.now) (length (rows_of words.now)) p }
     ensures { result ≡ stand_of (rows_of words.now) }
 {
     let n = rows::row_count(words);
-    let start = if_late(p.late, p.upcoming.0, n);
-    let position = start - if_late(p.late, p.begun, p.frames);
-    let last = p.last;
+    let start = if p.late { p.upcoming.0 } else { n };
+    let begun = if p.late { p.begun } else { p.frames };
     Stand {
         frames: p.frames,
         steps: n - p.frames,
-        position,
+        position: start - begun,
         upcoming: RowPlace(start),
-        last,
+        last: p.last,
     }
 }
 
-// Refusals 1 and 2, or where the one window stands, or that there are several.
+// The windows of a sound record: one, which stands so, or several.
 #[derive(Clone, Copy)]
-pub enum Survey {
-    Stands(Stand),
+pub enum Windows {
+    One(Stand),
     Several,
-    No(Refusal),
 }
 
 // Refusals 1 and 2, or where the window stands or that there are several, by the one pass of the test.
-pub fn locate(words: &[u32]) -> Survey
+pub fn locate(words: &[u32]) -> Result<Windows, Refusal>
     ensures { result ≡ survey_of words.now }
 {
     if is_short(words) {
-        return Survey::No(Refusal::ShortRecord);
+        return Err(Refusal::ShortRecord);
     }
-    match test(words) {
-        Tested::Fails => Survey::No(Refusal::Unsound),
-        Tested::Holds(p) => {
-            if !is_in_order(words, p) {
-                return Survey::No(Refusal::Unsound);
-            }
-            if p.several {
-                Survey::Several
-            } else {
-                Survey::Stands(stand_of(words, p))
-            }
-        }
+    let Some(p) = test(words) else {
+        return Err(Refusal::Unsound);
+    };
+    if !is_in_order(words, p) {
+        return Err(Refusal::Unsound);
     }
+    if p.several {
+        return Ok(Windows::Several);
+    }
+    Ok(Windows::One(stand_of(words, p)))
 }

@@ -1,4 +1,5 @@
 -- The goals of `sound::comes_in` that want a word.
+use mathlib.Core.Path.{◌∙◌}
 use Prim.Native.Nat.{◌+◌, ◌*◌}
 use native.Mathlib.Omega.{arith}
 use Rattle.rules.specs.Words.{rows_of}
@@ -13,4 +14,4 @@ pub returns-then-not-comes_at : goal.returns-then-not-comes_at
 returns-then-not-comes_at c = comes-not (rows_of c.args.words.now) _ _ c.comes_at.ensures _ c.if-not-comes_at.true
 
 pub returns : goal.returns
-returns c = comes-there (rows_of c.args.words.now) _ _ c.comes_at.ensures _ _ c.if-not-comes_at.false c.root_of.ensures
+returns c = c.eq.ensures ∙ comes-there (rows_of c.args.words.now) _ _ c.comes_at.ensures _ _ c.if-not-comes_at.false c.root_of.ensures

@@ -6,6 +6,3 @@ use Rattle.sound.proofs.documents_apart.Given as goal
 
 abbrev pub invariant-loop-i : goal.invariant-loop-i
 invariant-loop-i l = (l.i < l.n) × Tail (rows_of l.words) l.i l.low.0 l.high.0
-
-abbrev pub decreases-loop-i : goal.decreases-loop-i
-decreases-loop-i l = l.i

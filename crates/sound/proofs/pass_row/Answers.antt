@@ -6,7 +6,7 @@ use Rattle.sound.proofs.Passes.{step_after}
 use Rattle.sound.proofs.pass_row.Goals as goal
 
 pub pass_step-requires : goal.pass_step-requires
-pass_step-requires c = (c.requires.0, c.requires.1, step_after (rows_of c.args.words.now) _ _ _ c.previous_under.ensures c.in-At.is)
+pass_step-requires c = (c.requires.0, c.requires.1, step_after (rows_of c.args.words.now) _ _ _ c.previous_under.ensures c.in-Some.is)
 
 pub pass_first-requires : goal.pass_first-requires
-pass_first-requires c = (c.requires.0, c.requires.1, c.requires.2, sym (first_found _ _ _ c.previous_under.ensures c.in-Nothing.is))
+pass_first-requires c = (c.requires.0, c.requires.1, c.requires.2, sym (first_found _ _ _ c.previous_under.ensures c.in-None.is))

@@ -1,5 +1,5 @@
 -- What the loops of `sound::rest_zero` keep.
-use Prim.Native.Nat.{◌≤◌, ◌-◌, ◌+◌, ◌*◌}
+use Prim.Native.Nat.{◌≤◌, ◌+◌, ◌*◌}
 use mathlib.Core.Path.{◌≡◌}
 use lib.ListN.{length}
 use Rattle.rules.specs.Below.{all_below}
@@ -8,7 +8,4 @@ use Rattle.rules.specs.Sound.{zero?}
 use Rattle.sound.proofs.rest_zero.Given as goal
 
 abbrev pub invariant-loop-k : goal.invariant-loop-k
-invariant-loop-k l = (l.k ≤ l.end) × (l.end ≡ 3 + 4 * capacity l.words) × (3 + 4 * length (rows_of l.words) ≤ l.k) × (l.zero ≡ all_below l.k (zero? l.words))
-
-abbrev pub decreases-loop-k : goal.decreases-loop-k
-decreases-loop-k l = l.end - l.k
+invariant-loop-k l = (l.k ≤ l.k-end) × (l.k-end ≡ 3 + 4 * capacity l.words) × (3 + 4 * length (rows_of l.words) ≤ l.k) × (l.zero ≡ all_below l.k (zero? l.words))

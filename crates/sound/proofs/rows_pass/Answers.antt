@@ -1,8 +1,9 @@
 -- The goals of `sound::rows_pass` that want a word.
 use Prim.Native.Nat.{◌+◌, ◌-◌}
-use mathlib.Core.Bool.{true}
+use mathlib.Core.Bool.{true, ◌&&◌}
 use mathlib.Core.Path.{◌≡◌, refl, sym, ap, ◌∙◌}
 use native.Mathlib.Omega.{arith}
+use Rattle.base.proofs.Compared.{is-lower}
 use Rattle.rules.specs.Rows.{doc_at}
 use Rattle.rules.specs.Words.{rows_of}
 use Rattle.laws.proofs.Loops.{all_more}
@@ -25,18 +26,18 @@ loop-i-init c = let root = root-goes (rows_of c.args.words.now) _ _ c.is_root.en
 pub returns-then-not-is_bounded : goal.returns-then-not-is_bounded
 returns-then-not-is_bounded c = pass-stops (rows_of c.args.words.now) _ _ _ _ (omega arith) c.requires.1 _ c.is_bounded.ensures c.if-not-is_bounded.true
 
-pub returns-in_default : goal.returns-in_default
-returns-in_default c = pass-breaks (rows_of c.args.words.now) _ _ _ _ (omega arith) c.requires.1 _ c.is_bounded.ensures (told-fails _ _ _ _ c.pass_row.ensures c.in_default.is)
+pub returns-in_err-p : goal.returns-in_err-p
+returns-in_err-p c = rw c.from_residual.ensures (pass-breaks (rows_of c.args.words.now) _ _ _ _ (omega arith) c.requires.1 _ c.is_bounded.ensures (told-fails _ _ _ _ c.pass_row.ensures c.in_err-p.was))
 
 pub loop-i-preserved : goal.loop-i-preserved
 loop-i-preserved c = let here : c.loop-i.i ≡ c.loop-i.i + 1 - 1 = omega arith in
-    let told = told-holds (rows_of c.args.words.now) _ _ _ c.pass_row.ensures _ c.in-Holds.is in (
+    let told = told-holds (rows_of c.args.words.now) _ _ _ c.pass_row.ensures _ c.in_ok-p.was in (
       omega arith,
       omega arith,
       told.1,
       all_more _ _ _ c.loop-i.invariant.3 c.is_bounded.ensures c.if-not-is_bounded.false,
       all_more _ _ true c.loop-i.invariant.4 (sym told.0) refl,
-      rises-more (rows_of c.args.words.now) _ _ _ _ (omega arith) c.loop-i.invariant.5 c.loop-i.invariant.6 c.document-d.ensures,
+      ap (λ e. c.loop-i.rises && e) (is-lower _ _ _ c.lt-rises.ensures) ∙ rises-more (rows_of c.args.words.now) _ _ _ _ (omega arith) c.loop-i.invariant.5 c.loop-i.invariant.6 c.document-d.ensures,
       c.document-d.ensures ∙ ap (doc_at (rows_of c.args.words.now)) here,
     )
 

@@ -11,6 +11,3 @@ use Rattle.sound.proofs.rows_pass.Given as goal
 
 abbrev pub invariant-loop-i : goal.invariant-loop-i
 invariant-loop-i l = (1 ≤ l.i) × (l.i ≤ l.n) × Passed (rows_of l.words) l.i l.p × (all_below l.i (bounded (rows_of l.words) l.top.0) ≡ true) × (all_below l.i (linked (rows_of l.words)) ≡ true) × (l.rises ≡ all_below l.i (ordered (rows_of l.words))) × (l.last.0 ≡ doc_at (rows_of l.words) (l.i - 1))
-
-abbrev pub decreases-loop-i : goal.decreases-loop-i
-decreases-loop-i l = l.n - l.i

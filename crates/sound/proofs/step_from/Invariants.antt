@@ -1,5 +1,5 @@
 -- What the loops of `sound::step_from` keep.
-use Prim.Native.Nat.{◌-◌, ◌≤◌}
+use Prim.Native.Nat.{◌≤◌}
 use mathlib.Core.Bool.{false}
 use mathlib.Core.Path.{◌≡◌}
 use Rattle.rules.specs.Below.{some_below}
@@ -12,6 +12,3 @@ use Rattle.sound.proofs.step_from.Given as goal
 
 abbrev pub invariant-loop-j : goal.invariant-loop-j
 invariant-loop-j l = (l.initial.j ≤ l.j) × (some_below l.j (late l.root.0 (rows_of l.words) l.initial.j) ≡ false) × Under (frame_at (rows_of l.words)) l.j l.bound.0 × Recalls l.root.0 (rows_of l.words) l.mind
-
-abbrev pub decreases-loop-j : goal.decreases-loop-j
-decreases-loop-j l = l.n - l.j

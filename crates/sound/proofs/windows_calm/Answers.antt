@@ -15,7 +15,7 @@ returns-in_default c = look-broke (rows_of c.args.words.now) _ _ c.look_on.ensur
 
 pub loop-i-init : goal.loop-i-init
 loop-i-init c = let rows = rows_of c.args.words.now in
-    let w = look-went rows _ _ c.look_on.ensures _ c.in-Goes.is (clear-before rows _ c.requires.3) in
+    let w = look-went rows _ _ c.look_on.ensures _ c.in-Some.is (clear-before rows _ c.requires.3) in
     (omega (arith, c.requires.0.below, c.row_count-n.ensures), w.0, c.highest_upto-high.ensures, w.1)
 
 pub returns-in_default-look_at : goal.returns-in_default-look_at
@@ -23,7 +23,7 @@ returns-in_default-look_at c = look-broke (rows_of c.args.words.now) _ _ c.look_
 
 pub loop-i-preserved : goal.loop-i-preserved
 loop-i-preserved c = let rows = rows_of c.args.words.now in
-    let w = look-went rows _ _ c.look_at.ensures _ c.in-Goes-look_at.is c.loop-i.invariant.1 in
+    let w = look-went rows _ _ c.look_at.ensures _ c.in-Some-look_at.is c.loop-i.invariant.1 in
     (omega arith, w.0, under_more (frame_at rows) _ _ _ c.loop-i.invariant.2 (omega (arith, c.higher-high.ensures, c.frame.ensures)), w.1)
 
 pub returns : goal.returns
