@@ -1,5 +1,5 @@
 -- Root frames: what the tests of a row tell, and of a record of one window which frame is one. Assumes nothing.
-use Prim.Native.Nat.{ℕ}
+use Prim.Native.Nat.{ℕ, ◌<◌}
 use mathlib.Core.Bool.{not, ◌&&◌, and-eq-true_iff, false}
 use mathlib.Core.List.{List}
 use mathlib.Core.Logic.{⊎_elim}
@@ -15,10 +15,11 @@ use Rattle.rules.specs.Words.{rows_of}
 use Rattle.laws.proofs.Tests.{same_tests, some_in, some_out}
 use Rattle.laws.proofs.Loops.{earliest-in}
 use Rattle.laws.proofs.Tree.{Alike}
+use Rattle.reads.specs.Within.{Within}
 use Rattle.sound.specs.Check.{Examined}
 use Rattle.sound.specs.Survey.{Located}
 use Rattle.sound.specs.declared.Stand.{Stand}
-use Rattle.sound.proofs.Checks.{examined-sound}
+use Rattle.sound.proofs.Checks.{examined-sound, examined-fits}
 use Rattle.sound.proofs.Alone.{alone-root}
 use Rattle.extracts.specs.Windows.{heads, other_root, FirstOther}
 
@@ -28,6 +29,10 @@ module _ (rows : List Row) (r i f p : ℕ) (frame_is : f ≡ frame_at rows i) (p
 
   pub other-is : (eqb p none && not (eqb f r)) ≡ other_root r rows i
   other-is = ap₂ (λ x y. eqb y none && not (eqb x r)) frame_is parent_is
+
+-- A row of an examined record may be read.
+pub row-within : (words : List ℕ) → Examined words → (n i k : ℕ) → n ≡ length (rows_of words) → k < n → i ≡ k → Within words i
+row-within words e n i k h l q = record { fits = examined-fits words e; below = omega arith }
 
 -- The first row of a sound record has no parent.
 pub first-top : (words : List ℕ) → Examined words → parent_at (rows_of words) 0 ≡ none
