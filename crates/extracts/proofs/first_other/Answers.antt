@@ -9,16 +9,16 @@ use Rattle.extracts.specs.Windows.{other_root}
 use Rattle.extracts.proofs.first_other.Goals as goal
 
 pub loop-i-init : goal.loop-i-init
-loop-i-init c = (omega arith, some-none _)
+loop-i-init c = some-none _
 
 pub is_other-requires : goal.is_other-requires
 is_other-requires c = record { fits = examined-fits _ c.requires; below = omega (arith, c.row_count-n.ensures) }
 
 pub returns-then-is_other : goal.returns-then-is_other
-returns-then-is_other c = first_found (other_root c.args.root.0 (rows_of c.args.words.now)) _ _ _ c.loop-i.invariant.1 (omega (arith, c.row_count-n.ensures)) c.is_other.ensures c.if-is_other.true
+returns-then-is_other c = first_found (other_root c.args.root.0 (rows_of c.args.words.now)) _ _ _ c.loop-i.invariant (omega (arith, c.row_count-n.ensures)) c.is_other.ensures c.if-is_other.true
 
 pub loop-i-preserved : goal.loop-i-preserved
-loop-i-preserved c = (omega arith, some_more _ _ _ c.loop-i.invariant.1 c.is_other.ensures c.if-is_other.false)
+loop-i-preserved c = (some_more _ _ _ c.loop-i.invariant c.is_other.ensures c.if-is_other.false)
 
 pub returns : goal.returns
-returns c = first_done (other_root c.args.root.0 (rows_of c.args.words.now)) _ _ c.loop-i.invariant.0 c.loop-i-test.false c.loop-i.invariant.1 ∙ ap (earliest (other_root c.args.root.0 (rows_of c.args.words.now))) c.row_count-n.ensures
+returns c = first_done (other_root c.args.root.0 (rows_of c.args.words.now)) _ _ c.loop-i.auto.i-end c.loop-i-test.false c.loop-i.invariant ∙ ap (earliest (other_root c.args.root.0 (rows_of c.args.words.now))) c.row_count-n.ensures
