@@ -274,7 +274,14 @@ fn rooms(rt: &impl Print, f: Form) -> io::Result<()> {
     let bytes = f.bytes;
     let mut five = [7u32; 23];
     load_first(rt, "room for five", f.version, &mut five, &bytes, f.len)?;
-    load_first(rt, "room for five, 99 bytes", f.version, &mut five, &bytes, 99)?;
+    load_first(
+        rt,
+        "room for five, 99 bytes",
+        f.version,
+        &mut five,
+        &bytes,
+        99,
+    )?;
     let mut six = [7u32; 6];
     load_first(rt, "6 words", f.version, &mut six, &bytes, f.len)?;
     load_first(rt, "6 words, no bytes", f.version, &mut six, &bytes, 0)?;
@@ -303,7 +310,14 @@ fn other_version(version: Version) -> Version {
 fn other(rt: &impl Print, name: &str, f: Form) -> io::Result<()> {
     let bytes = f.bytes;
     let mut words = [7u32; 35];
-    load_first(rt, name, other_version(f.version), &mut words, &bytes, f.len)
+    load_first(
+        rt,
+        name,
+        other_version(f.version),
+        &mut words,
+        &bytes,
+        f.len,
+    )
 }
 
 // Loads bytes, saves the record that they tell, and tells the bytes.
