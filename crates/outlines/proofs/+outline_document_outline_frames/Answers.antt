@@ -48,8 +48,8 @@ outline_frames-loop-at-init t c =
 pub outline_frames-returns : goal.outline_frames-returns
 outline_frames-returns t c =
     let w = table_of c.args.words.now in
-    let none = next-none w.rows c.args.from.0 c.args.d.0 c.loop-at.least w.next_frame (rw c.loop-at.invariant.0 at c.next_child.ensures) c.in_default.is in
-    let e = run_end w c.args.from.0 c.args.depth c.args.d.0 c.loop-at.least (omega arith) none in
+    let none = next-none w.rows c.args.from.0 c.args.d.0 c.loop-at.least.0 w.next_frame (rw c.loop-at.invariant.0 at c.next_child.ensures) c.in_default.is in
+    let e = run_end w c.args.from.0 c.args.depth c.args.d.0 c.loop-at.least.0 (omega arith) none in
     (omega (arith, c.loop-at.invariant.3, ap length e), c.loop-at.invariant.2 ∙ sym (ap (put c.args.pairs.now c.args.k) e))
 
 -- The row at the match, of the frames up to the record's own next frame number.
@@ -61,7 +61,7 @@ pub outline_frames-outline_document-free-requires : goal.outline_frames-outline_
 outline_frames-outline_document-free-requires t c =
     let w = table_of c.args.words.now in
     let b = child w _ _ _ _ _ _ c.loop-at.invariant.0 c.next_child.ensures c.in-Some.is in
-    let room = run_room w c.args.from.0 c.args.depth c.args.d.0 c.loop-at.least c.in-Some.at.0 b in
+    let room = run_room w c.args.from.0 c.args.depth c.args.d.0 c.loop-at.least.0 c.in-Some.at.0 b in
     let r = c.requires in (
       omega (arith, b.after, b.inside),
       (
@@ -76,8 +76,8 @@ outline_frames-outline_document-free-requires t c =
       ),
     )
 
-pub outline_frames-frame-least-requires : goal.outline_frames-frame-least-requires
-outline_frames-frame-least-requires t c =
+pub outline_frames-frame-requires : goal.outline_frames-frame-requires
+outline_frames-frame-requires t c =
     record { fits = c.requires.fits; below = (child (table_of c.args.words.now) _ _ _ _ _ _ c.loop-at.invariant.0 c.next_child.ensures c.in-Some.is).inside }
 
 -- Its frame number is below the limit, so the next one fits.
@@ -95,9 +95,9 @@ pub outline_frames-loop-at-preserved : goal.outline_frames-loop-at-preserved
 outline_frames-loop-at-preserved t c =
     let w = table_of c.args.words.now in
     let b = child w _ _ _ _ _ _ c.loop-at.invariant.0 c.next_child.ensures c.in-Some.is in
-    let done = frames_below w c.args.from.0 c.args.depth c.args.d.0 c.loop-at.least in
+    let done = frames_below w c.args.from.0 c.args.depth c.args.d.0 c.loop-at.least.0 in
     let more = document_text w c.in-Some.at.0 c.args.depth in
-    let run : frames_below w c.args.from.0 c.args.depth c.args.d.0 (c.frame-least.result.0 + 1) ≡ done ++ more = rw c.frame-least.ensures (run_at w _ _ _ _ _ b) in (
+    let run : frames_below w c.args.from.0 c.args.depth c.args.d.0 (c.frame.result.0 + 1) ≡ done ++ more = rw c.frame.ensures (run_at w _ _ _ _ _ b) in (
       c.loop-at.invariant.0,
       omega (arith, b.limited),
       stored_on c.args.pairs.now c.loop-at.pairs _ c.args.k c.loop-at.free done more _ c.loop-at.invariant.2 c.loop-at.invariant.3 run c.outline_document-free.ensures.1,
