@@ -271,9 +271,6 @@ beyond-way words room δ s x word h =
     stays words δ room Beyond (λ r root lent z. only-past words s x word r root δ lent _ _ g refl)
 
 -- An amount as it is handed on.
-pub by-amount : (words room : List ℕ) (r : ℕ) (o : Outcome) (z δ : ℤ) → z ≡ δ → outcome (Call.Traverse words r z room) ≡ o → outcome (Call.Traverse words r δ room) ≡ o
-by-amount words room r o z δ e h = subst (λ d. outcome (Call.Traverse words r d room) ≡ o) e h
-
 pub shift_by : (words words' : List ℕ) (room : ℕ) (s : Result Trip Refusal) (z δ : ℤ) → z ≡ δ → Shifts words z room s words' → Shifts words δ room s words'
 shift_by words words' room s z δ e h = subst (λ d. Shifts words d room s words') e h
 
@@ -289,11 +286,11 @@ pub root-way : (words : List ℕ) (r : ℕ) (δ : ℤ) (lent : List ℕ) → Exa
 unfolding refusals Given
 root-way words r δ lent x f = outcome-refused (Call.Traverse words r δ lent) 13 [] (inr (x.long, inr (rw x.passes refl, inl (rw f refl, refl, refl))))
 
--- Whoever writes the change rows of a shift.
-module _ (words words' : List ℕ) (r : ℕ) (root : So (is_root (rows_of words) r)) (δ : ℤ) (s : Result Trip Refusal) (lent : List ℕ) where
-  pub went-way : (lent' : List ℕ) → Shifts words δ (length lent / 4) s words' → (t : Trip) → s ≡ Ok t → lent' ≡ put lent 0 (trip_text words' t) →
+-- What is answered and left where a shift went, and where it was refused.
+module _ (words words' : List ℕ) (r : ℕ) (root : So (is_root (rows_of words) r)) (δ : ℤ) (room : ℕ) (s : Result Trip Refusal) (h : Shifts words δ room s words') where
+  pub went-way : (t : Trip) → s ≡ Ok t → (lent lent' : List ℕ) → length lent / 4 ≡ room → lent' ≡ put lent 0 (trip_text words' t) →
       outcome (Call.Traverse words r δ lent) ≡ record { answer = traversed_is (Ok t.count); lent = words' ∷ lent' ∷ [] }
-  went-way lent' h t e w = h.outcome-is r root lent refl ∙ rw (e, w) refl
+  went-way t e lent lent' l w = h.outcome-is r root lent l ∙ rw (e, w) refl
 
-  pub stayed-way : Shifts words δ (length lent / 4) s words' → (why : Refusal) → s ≡ Err why → outcome (Call.Traverse words r δ lent) ≡ record { answer = traversed_is (Err why); lent = words' ∷ lent ∷ [] }
-  stayed-way h why e = h.outcome-is r root lent refl ∙ rw e (ap (λ z. record { answer = traversed_is (Err why); lent = words' ∷ z ∷ [] }) (sym (put-none lent 0)))
+  pub stayed-way : (why : Refusal) → s ≡ Err why → (lent : List ℕ) → length lent / 4 ≡ room → outcome (Call.Traverse words r δ lent) ≡ record { answer = traversed_is (Err why); lent = words' ∷ lent ∷ [] }
+  stayed-way why e lent l = h.outcome-is r root lent l ∙ rw e (ap (λ z. record { answer = traversed_is (Err why); lent = words' ∷ z ∷ [] }) (sym (put-none lent 0)))
