@@ -10,34 +10,37 @@ use borrow.Author.Tests.{lt-ltb, le-ltb}
 use Rattle.base.proofs.Signed.{by_sign, by_plus}
 use Rattle.base.specs.declared.Refusal.{Refusal}
 use Rattle.base.specs.Numbers.{number_of, carried_by}
+use Rattle.std.specs.Prelude.{Option, None, Some, Result, Ok, Err}
+use Rattle.base.specs.declared.DocNo.{DocNo}
 use Rattle.rules.specs.Steps.{visible}
 use Rattle.rules.specs.Words.{rows_of}
 use Rattle.rules.specs.Asks.{own_list, stretched}
 use Rattle.rules.specs.Calls.{Call, Answer, refusals, accepted, ladder, outcome}
 use Rattle.laws.proofs.Calls.{outcome-refused}
 use Rattle.sound.specs.Check.{check_of, Examined}
-use Rattle.sound.specs.declared.Check.{Check}
-use Rattle.sound.specs.declared.Check.TheVariants.{No}
 use Rattle.rows.specs.Readable.{readable_rows}
 use Rattle.asks.specs.Answers.{sight_is, sight_of, SightIs}
 use Rattle.asks.specs.declared.Sight.{Sight}
-use Rattle.asks.specs.declared.Sight.TheVariants.{Visible, Hidden, Refused}
 use Rattle.asks.proofs.Climbs.{seen-is}
 use Rattle.sound.proofs.Checks.{check-given, examined-fits}
 
-pub visible-refused : (words : List ℕ) (d : ℕ) (k : Check) (r : Refusal) → k ≡ check_of words → k ≡ No r → outcome (Call.Visible words d) ≡ record { answer = Answer.refuses (number_of r) (carried_by r); lent = [] }
+pub visible-refused : (words : List ℕ) (d : ℕ) (k : Result (Unit {0}) Refusal) (r : Refusal) → k ≡ check_of words → k ≡ Err r → outcome (Call.Visible words d) ≡ record { answer = sight_is (Err r); lent = [] }
 unfolding refusals
 visible-refused words d k r e f = outcome-refused (Call.Visible words d) (number_of r) (carried_by r) (check-given words _ k r e f)
 
-module _ (words : List ℕ) (e : Examined words) where
-  by-sight : (d : ℕ) (s : Sight) → SightIs (rows_of words) d s → outcome (Call.Visible words d) ≡ record { answer = sight_is s; lent = [] }
+module _ (words : List ℕ) (e : Examined words) (d : ℕ) where
+  by-hider : (h : Option DocNo) (n : ℕ) → SightIs (rows_of words) d (Ok (record { hider = h; links = n })) → outcome (Call.Visible words d) ≡ record { answer = sight_is (Ok (record { hider = h; links = n })); lent = [] }
   unfolding outcome refusals accepted ladder visible
-  by-sight d (Visible n) i = rw (e.long, e.passes, i.0, i.1, i.2) refl
-  by-sight d (Hidden h n) i = rw (e.long, e.passes, i.0, i.1, i.2) refl
-  by-sight d (Refused r) i = rw (e.long, e.passes, i.0, i.1) refl
+  by-hider None n i = rw (e.long, e.passes, i.0, i.1, i.2) refl
+  by-hider (Some h) n i = rw (e.long, e.passes, i.0, i.1, i.2) refl
 
-  pub visible-given : (d : ℕ) (s : Sight) → s ≡ sight_of (readable_rows words) d → outcome (Call.Visible words d) ≡ record { answer = sight_is s; lent = [] }
-  visible-given d s h = by-sight d s (seen-is words d (examined-fits words e) s h)
+  by-sight : (s : Result Sight Refusal) → SightIs (rows_of words) d s → outcome (Call.Visible words d) ≡ record { answer = sight_is s; lent = [] }
+  unfolding outcome refusals accepted ladder
+  by-sight (Ok s) i = by-hider s.hider s.links i
+  by-sight (Err r) i = rw (e.long, e.passes, i.0, i.1) refl
+
+  pub visible-given : (s : Result Sight Refusal) → s ≡ sight_of (readable_rows words) d → outcome (Call.Visible words d) ≡ record { answer = sight_is s; lent = [] }
+  visible-given s h = by-sight s (seen-is words d (examined-fits words e) s h)
 
 -- STRETCH
 

@@ -15,16 +15,16 @@ use Rattle.rules.specs.Words.{capacity, rows_of}
 use Rattle.laws.proofs.Tests.{test}
 use Rattle.laws.proofs.Climb.{climbs-itself, climbs-nobody, links-at}
 use Rattle.reads.specs.Found.{found_below}
-use Rattle.reads.specs.declared.Found.{Found}
-use Rattle.reads.specs.declared.Found.TheVariants.{At, Nothing}
+use Rattle.std.specs.Prelude.{Option, None, Some, Result, Ok, Err}
 use Rattle.reads.specs.Within.{Within}
 use Rattle.reads.proofs.Climbs.{climb-at, climb-lost}
 use Rattle.reads.proofs.Scans.{found_at, found-lower, found_nothing}
 use Rattle.rows.specs.Readable.{readable_rows}
 use Rattle.rows.proofs.Readable.{readable-rows, readable-within}
-use Rattle.asks.specs.Answers.{hider_by, Means, Coded, sight_by, sight_of, SightIs}
+use Rattle.asks.specs.Answers.{hider_is, hider_doc, hider_by, Means, Coded, sight_of, SightIs}
 use Rattle.asks.specs.declared.Sight.{Sight}
-use Rattle.asks.specs.declared.Sight.TheVariants.{Refused}
+use Rattle.base.specs.declared.DocNo.{DocNo}
+use Rattle.base.specs.declared.Refusal.{Refusal}
 
 module _ (rows : List Row) (k : ℕ) (s : Bool) (shown : s ≡ is_shown rows k) where
   pub hidden-ends : s ≡ false → climb_at rows k ≡ ended (Hider.document (doc_at rows k))
@@ -34,16 +34,16 @@ module _ (rows : List Row) (k : ℕ) (s : Bool) (shown : s ≡ is_shown rows k) 
     pub root_ends : up ≡ none → climb_at rows k ≡ ended Hider.nobody
     root_ends e = climbs-nobody rows k (sym shown ∙ t) (sym named ∙ e)
 
-    module _ (f : Found) (ne : up ≡ none → ⊥) (scan : f ≡ found_below (is_doc rows up) k) where
+    module _ (f : Option RowPlace) (ne : up ≡ none → ⊥) (scan : f ≡ found_below (is_doc rows up) k) where
       goes-up : climb_at rows k ≡ further (climb lost (climb_ask rows) rows k up)
       unfolding climb_at
       goes-up = rw (sym shown ∙ t, ne_eqb (parent_at rows k) none (λ z. ne (named ∙ z))) (ap (λ d. further (climb lost (climb_ask rows) rows k d)) (sym named))
 
-      pub climb-goes : (q : RowPlace) → f ≡ At q → climb_at rows k ≡ further (climb_at rows q.0)
+      pub climb-goes : (q : RowPlace) → f ≡ Some q → climb_at rows k ≡ further (climb_at rows q.0)
       unfolding climb_at
       climb-goes q g = goes-up ∙ ap further (climb-at lost (climb_ask rows) rows k up q (sym scan ∙ g))
 
-      pub lost-ends : f ≡ Nothing → climb_at rows k ≡ further lost
+      pub lost-ends : f ≡ None → climb_at rows k ≡ further lost
       lost-ends g = goes-up ∙ ap further (climb-lost lost (climb_ask rows) rows k up (sym scan ∙ g))
 
 -- The number of a climb that ends with a document, or with nobody, and of one a link further.
@@ -111,13 +111,22 @@ pub climb-by : (rows : List Row) (i : ℕ) (h : Hider) → h ≡ hider_at rows i
 unfolding visible_at
 climb-by rows i h e = ap is_nobody e
 
+-- Who hides, in either words.
+doc-is : (h : Option DocNo) → hider_doc (hider_is h) ≡ h
+doc-is None = refl
+doc-is (Some d) = refl
+
+is-doc : (h : Hider) → hider_is (hider_doc h) ≡ h
+is-doc Hider.nobody = refl
+is-doc (Hider.document d) = refl
+
 -- A document, where the scan for it ended.
-module _ (words : List ℕ) (d : ℕ) (f : Found) (scan : f ≡ found_below (is_doc (readable_rows words) d) (length (readable_rows words))) where
-  pub seen-absent : f ≡ Nothing → Refused Absent ≡ sight_of (readable_rows words) d
+module _ (words : List ℕ) (d : ℕ) (f : Option RowPlace) (scan : f ≡ found_below (is_doc (readable_rows words) d) (length (readable_rows words))) where
+  pub seen-absent : f ≡ None → Err Absent ≡ sight_of (readable_rows words) d
   unfolding sight_of in_record
   seen-absent e = rw (found_nothing (is_doc (readable_rows words) d) (length (readable_rows words)) (sym scan ∙ e)) refl
 
-  module _ (q : RowPlace) (e : f ≡ At q) where
+  module _ (q : RowPlace) (e : f ≡ Some q) where
     here : in_record (readable_rows words) d ≡ true
     unfolding in_record
     here = (found_at (is_doc (readable_rows words) d) (length (readable_rows words)) q (sym scan ∙ e)).0
@@ -132,23 +141,19 @@ module _ (words : List ℕ) (d : ℕ) (f : Found) (scan : f ≡ found_below (is_
     pub found_within : Within words q.0
     found_within = readable-within words q.0 lower
 
-    pub seen_by : (code : ℕ) (h : Hider) (n : ℕ) → Coded (climb_at (rows_of words) q.0) code → h ≡ hider_by (code % 8589934592) → n ≡ code / 8589934592 →
-        sight_by h n ≡ sight_of (readable_rows words) d
+    pub seen_by : (code : ℕ) (h : Option DocNo) (n : ℕ) → Coded (climb_at (rows_of words) q.0) code → hider_is h ≡ hider_by (code % 8589934592) → n ≡ code / 8589934592 →
+        Ok (record { hider = h; links = n }) ≡ sight_of (readable_rows words) d
     unfolding sight_of hider_of hider_at
     seen_by code h n read g far =
         let c = climbed-within words (length (readable_rows words)) q.0 refl code lower read in
-        let who : (climb_of (readable_rows words) d).hider ≡ h = ap (λ x. x.hider) there ∙ sym (hiding-is (readable_rows words) q.0 code h c g) in
+        let who : (climb_of (readable_rows words) d).hider ≡ hider_is h = ap (λ x. x.hider) there ∙ sym (hiding-is (readable_rows words) q.0 code (hider_is h) c g) in
         let links : (climb_of (readable_rows words) d).links ≡ n = ap (λ x. x.links) there ∙ sym c.far ∙ sym far in
-        rw (here, who, links) refl
+        rw (here, who, links, doc-is h) refl
 
 -- What is seen of a record that has room for its rows.
-pub seen-is : (words : List ℕ) (d : ℕ) → length (rows_of words) ≤ capacity words → (s : Sight) → s ≡ sight_of (readable_rows words) d → SightIs (rows_of words) d s
+pub seen-is : (words : List ℕ) (d : ℕ) → length (rows_of words) ≤ capacity words → (s : Result Sight Refusal) → s ≡ sight_of (readable_rows words) d → SightIs (rows_of words) d s
 unfolding sight_of
 seen-is words d l s e =
     let rows = rows_of words in
     subst (SightIs rows d) (sym (e ∙ ap (λ rows. sight_of rows d) (readable-rows words l)))
-    (test (in_record rows d) (λ h. rw h (by (hider_of rows d) refl h)) (λ h. rw h (h, refl)))
-  where
-    by : (h : Hider) → hider_of (rows_of words) d ≡ h → in_record (rows_of words) d ≡ true → SightIs (rows_of words) d (sight_by h (climb_of (rows_of words) d).links)
-    by Hider.nobody e t = (t, e, refl)
-    by (Hider.document h) e t = (t, e, refl)
+    (test (in_record rows d) (λ h. rw h (h, sym (is-doc (hider_of rows d)), refl)) (λ h. rw h (h, refl)))

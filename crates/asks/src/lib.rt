@@ -8,25 +8,16 @@ ghost use Rattle.rules.specs.Asks.{own_list, stretched};
 ghost use Rattle.rules.specs.Calls.{Call, outcome};
 ghost use Rattle.reads.specs.Within.{Within};
 ghost use Rattle.rows.specs.Readable.{readable_rows};
-ghost use Rattle.asks.specs.Answers.{sight_is, sight_of, hider_is, hider_by, Coded, stretch_is};
+ghost use Rattle.asks.specs.Answers.{sight_is, sight_of, sight_rungs, hider_is, hider_by, Coded, stretch_is};
+ghost use Rattle.sound.specs.Check.{Examined, Settles};
 
 use base::{DocNo, Refusal, RowPlace};
-use reads::{Found, NONE};
-use sound::Check;
 
-// Whether a document can be seen, and if not, who hides it; and how many parent links were followed to tell.
-#[derive(Clone, Copy)]
-pub enum Sight {
-    Visible(u32),
-    Hidden(DocNo, u32),
-    Refused(Refusal),
-}
-
-// Who hides a document: the nearest document, itself first and then upwards, that is not shown.
-#[derive(Clone, Copy)]
-pub enum Hider {
-    Nobody,
-    Document(DocNo),
+// How a document is seen: who hides it, the nearest document, itself first and then upwards, that is not shown, or nobody; and how many parent links were followed to tell.
+#[derive(Clone, Copy, Debug, PartialEq, Eq)]
+pub struct Sight {
+    pub hider: Option<DocNo>,
+    pub links: u32,
 }
 
 // Nobody, as a number: the first that no document has.
@@ -54,12 +45,12 @@ fn ascend(words: &&[u32], at: RowPlace) -> u64
         return wide(reads::document(here, at));
     }
     let up = reads::parent(here, at);
-    if up.0 == NONE {
+    if up == DocNo::NONE {
         return NOBODY;
     }
     match reads::find_below(here, at, up) {
-        Found::At(above) => LINK + ascend(words, above),
-        Found::Nothing => LINK + wide(DocNo(NONE)),
+        Some(above) => LINK + ascend(words, above),
+        None => LINK + wide(DocNo::NONE),
     }
 }
 
@@ -73,15 +64,15 @@ fn climbed(words: &[u32], at: RowPlace) -> u64
     ascend(&words, at)
 }
 
-// Who a climb ends with.
-fn told(code: u64) -> Hider
+// Who a climb ends with: the document that hides, if one does.
+fn told(code: u64) -> Option<DocNo>
     ensures { hider_is result ≡ hider_by (code % 8589934592) }
 {
     let h = code % LINK;
     if h < NOBODY {
-        return Hider::Document(DocNo(h as u32));
+        return Some(DocNo(h as u32));
     }
-    Hider::Nobody
+    None
 }
 
 // Whether a climb ends with nobody.
@@ -98,8 +89,8 @@ fn links(code: u64) -> u32
     (code / LINK) as u32
 }
 
-// Who hides the document at any place.
-pub fn hiding(words: &[u32], at: RowPlace) -> Hider
+// Who hides the document at any place, if somebody does.
+pub fn hiding(words: &[u32], at: RowPlace) -> Option<DocNo>
     ensures { hider_is result ≡ hider_at (readable_rows words.now) at.0 }
 {
     told(climbed(words, at))
@@ -112,30 +103,36 @@ pub fn climb(words: &[u32], at: RowPlace) -> bool
     is_nobody(climbed(words, at))
 }
 
-// Whether a document is there, whether it is visible, who hides it, and how far the climb went.
-pub fn seen(words: &[u32], d: DocNo) -> Sight
+// How a document is seen, if it is there.
+pub fn seen(words: &[u32], d: DocNo) -> Result<Sight, Refusal>
     ensures { result ≡ sight_of (readable_rows words.now) d.0 }
 {
-    match rows::find(words, d) {
-        Found::Nothing => Sight::Refused(Refusal::Absent),
-        Found::At(at) => {
-            let code = ascend(&words, at);
-            let n = links(code);
-            match told(code) {
-                Hider::Nobody => Sight::Visible(n),
-                Hider::Document(h) => Sight::Hidden(h, n),
-            }
-        }
-    }
+    let Some(at) = rows::find(words, d) else {
+        return Err(Refusal::Absent);
+    };
+    let code = ascend(&words, at);
+    Ok(Sight {
+        hider: told(code),
+        links: links(code),
+    })
 }
 
-// Whether a document is visible, and if not, who hides it; and how many parent links were followed to tell.
-pub fn visible(words: &[u32], d: DocNo) -> Sight
+// How a document is seen.
+pub fn visible(words: &[u32], d: DocNo) -> Result<Sight, Refusal>
     ensures { outcome (Call.Visible words.now d.0) ≡ record { answer = sight_is result; lent = [] } }
 {
-    match sound::examine(words) {
-        Check::No(r) => Sight::Refused(r),
-        Check::Sound => seen(words, d),
+    sound::examine(words)?;
+    seen(words, d)
+}
+
+// Refusals 4 and 5, of a sound record: the document is there, and visible.
+pub fn judge_sight(words: &[u32], d: DocNo) -> Result<(), Refusal>
+    requires { Examined words.now }
+    ensures { Settles (sight_rungs words.now d.0) result }
+{
+    match seen(words, d)?.hider {
+        Some(h) => Err(Refusal::Hidden(h)),
+        None => Ok(()),
     }
 }
 
@@ -159,21 +156,18 @@ pub fn stretch<'a>(taken: &'a [u32], upcoming: &'a [u32], delta: i32) -> &'a [u3
     }
 }
 
-// How many entries a stretch has.
-#[derive(Clone, Copy)]
-pub enum Stretched {
-    Count(usize),
-    Refused(Refusal),
-}
-
 // How many entries the stretch by an amount has.
-pub fn stretch_count<'a>(taken: &'a [u32], upcoming: &'a [u32], delta: i32) -> Stretched
+pub fn stretch_count<'a>(
+    taken: &'a [u32],
+    upcoming: &'a [u32],
+    delta: i32,
+) -> Result<usize, Refusal>
     ensures { outcome (Call.StretchCount taken.now upcoming.now delta) ≡ record { answer = stretch_is result; lent = [] } }
 {
     let n = base::magnitude(delta);
     let list = own_list(taken, upcoming, delta);
     if list.len() < n {
-        return Stretched::Refused(Refusal::Beyond);
+        return Err(Refusal::Beyond);
     }
-    Stretched::Count(n)
+    Ok(n)
 }

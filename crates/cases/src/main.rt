@@ -2,43 +2,27 @@
 // and length of window 0 and the visible documents.
 #![tactic(auto)]
 
-use asks::Sight;
-use base::{Carried, DocNo, FrameNo, Refusal};
-use drops::Dropped;
-use lists::{Listed, Standing};
-use moves::{Freshened, Opened};
-use navigates::Navigated;
-use outlines::Outlined;
-use replaces::Replaced;
+use base::{DocNo, FrameNo, Refusal};
+use moves::Opened;
 use std::io;
-use traverses::Traversed;
 
 // No parent.
-const NONE: u32 = 4294967295;
-
-// Writes a refusal's number, and the document that it carries.
-fn say_refused(rt: &impl Print, r: Refusal) -> io::Result<()> {
-    let number = base::refusal_number(r);
-    match base::refusal_carries(r) {
-        Carried::Document(d) => println!(rt; "refused {number} at {}", d.0),
-        Carried::Nothing => println!(rt; "refused {number}"),
-    }
-}
+const NONE: u32 = DocNo::NONE.0;
 
 // Fresh, told.
 fn fresh(rt: &impl Print, words: &mut [u32]) -> io::Result<()> {
     print!(rt; "  fresh: ")?;
     match moves::fresh(words) {
-        Freshened::Done => println!(rt; "done"),
-        Freshened::Refused(r) => say_refused(rt, r),
+        Ok(()) => println!(rt; "done"),
+        Err(r) => println!(rt; "refused {r}"),
     }
 }
 
 // The numbers of what was opened.
-fn say_opened(rt: &impl Print, o: Opened) -> io::Result<()> {
-    match o {
-        Opened::Numbers(d, f) => println!(rt; "document {}, frame {}", d.0, f.0),
-        Opened::Refused(r) => say_refused(rt, r),
+fn say_opened(rt: &impl Print, answer: Result<Opened, Refusal>) -> io::Result<()> {
+    match answer {
+        Ok(opened) => println!(rt; "document {}, frame {}", opened.document, opened.frame),
+        Err(r) => println!(rt; "refused {r}"),
     }
 }
 
@@ -58,8 +42,8 @@ fn tab(rt: &impl Print, words: &mut [u32]) -> io::Result<()> {
 fn navigate(rt: &impl Print, words: &mut [u32], from: u32) -> io::Result<()> {
     print!(rt; "  navigate {from}: ")?;
     match navigates::navigate(words, DocNo(from)) {
-        Navigated::Arrived(d) => println!(rt; "document {}", d.0),
-        Navigated::Refused(r) => say_refused(rt, r),
+        Ok(d) => println!(rt; "document {d}"),
+        Err(r) => println!(rt; "refused {r}"),
     }
 }
 
@@ -67,8 +51,8 @@ fn navigate(rt: &impl Print, words: &mut [u32], from: u32) -> io::Result<()> {
 fn take_out(rt: &impl Print, words: &mut [u32], frame: u32) -> io::Result<()> {
     print!(rt; "  drop {frame}: ")?;
     match drops::drop_frame(words, FrameNo(frame)) {
-        Dropped::Rows(n) => println!(rt; "{n} rows went"),
-        Dropped::Refused(r) => say_refused(rt, r),
+        Ok(n) => println!(rt; "{n} rows went"),
+        Err(r) => println!(rt; "refused {r}"),
     }
 }
 
@@ -76,8 +60,8 @@ fn take_out(rt: &impl Print, words: &mut [u32], frame: u32) -> io::Result<()> {
 fn replace(rt: &impl Print, words: &mut [u32], document: u32) -> io::Result<()> {
     print!(rt; "  replace {document}: ")?;
     match replaces::replace(words, DocNo(document)) {
-        Replaced::Arrived(d) => println!(rt; "document {}", d.0),
-        Replaced::Refused(r) => say_refused(rt, r),
+        Ok(d) => println!(rt; "document {d}"),
+        Err(r) => println!(rt; "refused {r}"),
     }
 }
 
@@ -92,11 +76,11 @@ fn say_traversed(rt: &impl Print, words: &mut [u32], root: u32, delta: i32) -> i
     print!(rt; ": ")?;
     let mut row = [9u32; 4];
     match traverses::traverse(words, FrameNo(root), delta, &mut row) {
-        Traversed::Changes(n) => {
+        Ok(n) => {
             print!(rt; "{n} changed")?;
             say_four(rt, &row)
         }
-        Traversed::Refused(r) => say_refused(rt, r),
+        Err(r) => println!(rt; "refused {r}"),
     }
 }
 
@@ -115,18 +99,23 @@ fn go_in(rt: &impl Print, words: &mut [u32], root: u32, delta: i32) -> io::Resul
 // Visible, told, and how many links the climb followed.
 fn ask(rt: &impl Print, words: &[u32], d: u32) -> io::Result<()> {
     print!(rt; "  visible {d}: ")?;
-    match asks::visible(words, DocNo(d)) {
-        Sight::Visible(n) => println!(rt; "yes, links {n}"),
-        Sight::Hidden(h, n) => println!(rt; "hidden by {}, links {n}", h.0),
-        Sight::Refused(r) => say_refused(rt, r),
+    let sight = match asks::visible(words, DocNo(d)) {
+        Ok(sight) => sight,
+        Err(r) => return println!(rt; "refused {r}"),
+    };
+    match sight.hider {
+        None => println!(rt; "yes, links {}", sight.links),
+        Some(h) => println!(rt; "hidden by {h}, links {}", sight.links),
     }
 }
 
 // Those of documents 0 to 8 that are visible.
 fn say_documents(rt: &impl Print, words: &[u32]) -> io::Result<()> {
     for d in 0..9 {
-        if let Sight::Visible(_) = asks::visible(words, DocNo(d)) {
-            print!(rt; " {d}")?;
+        if let Ok(sight) = asks::visible(words, DocNo(d)) {
+            if sight.hider.is_none() {
+                print!(rt; " {d}")?;
+            }
         }
     }
     Ok(())
@@ -135,15 +124,12 @@ fn say_documents(rt: &impl Print, words: &[u32]) -> io::Result<()> {
 // Position, steps and length of window 0, and the visible documents of a record.
 fn stand(rt: &impl Print, words: &[u32]) -> io::Result<()> {
     match lists::position(words, FrameNo(0)) {
-        Standing::At(p, s, l) => {
-            print!(rt; "  position {p} of {s}, length {l}, visible")?;
+        Ok(s) => {
+            print!(rt; "  position {} of {}, length {}, visible", s.position, s.steps, s.length)?;
             say_documents(rt, words)?;
             println!(rt; "")
         }
-        Standing::Refused(r) => {
-            print!(rt; "  position: ")?;
-            say_refused(rt, r)
-        }
+        Err(r) => println!(rt; "  position: refused {r}"),
     }
 }
 
@@ -151,8 +137,8 @@ fn stand(rt: &impl Print, words: &[u32]) -> io::Result<()> {
 fn stand_in(rt: &impl Print, words: &[u32], root: u32) -> io::Result<()> {
     print!(rt; "  window {root}: ")?;
     match lists::position(words, FrameNo(root)) {
-        Standing::At(p, s, l) => println!(rt; "position {p} of {s}, length {l}"),
-        Standing::Refused(r) => say_refused(rt, r),
+        Ok(s) => println!(rt; "position {} of {}, length {}", s.position, s.steps, s.length),
+        Err(r) => println!(rt; "refused {r}"),
     }
 }
 
@@ -162,10 +148,11 @@ fn list(rt: &impl Print, words: &[u32], root: u32) -> io::Result<()> {
     let mut taken = [9u32; 1];
     let mut upcoming = [9u32; 1];
     match lists::lists(words, FrameNo(root), &mut taken, &mut upcoming) {
-        Listed::Counts(t, u) => {
-            println!(rt; "{t} taken ({}), {u} upcoming ({})", taken[0], upcoming[0])
-        }
-        Listed::Refused(r) => say_refused(rt, r),
+        Ok(l) => println!(rt;
+            "{} taken ({}), {} upcoming ({})",
+            l.taken, taken[0], l.upcoming, upcoming[0]
+        ),
+        Err(r) => println!(rt; "refused {r}"),
     }
 }
 
@@ -174,11 +161,11 @@ fn outline(rt: &impl Print, words: &[u32], root: u32) -> io::Result<()> {
     print!(rt; "  outline of {root}: ")?;
     let mut pairs = [9u32; 4];
     match outlines::outline(words, FrameNo(root), &mut pairs) {
-        Outlined::Pairs(n) => {
+        Ok(n) => {
             print!(rt; "{n} visible")?;
             say_four(rt, &pairs)
         }
-        Outlined::Refused(r) => say_refused(rt, r),
+        Err(r) => println!(rt; "refused {r}"),
     }
 }
 

@@ -4,11 +4,14 @@ use mathlib.Core.Bool.{Bool}
 use mathlib.Core.List.{List, [], ◌∷◌, ◌++◌}
 use mathlib.Core.Path.{◌≡◌, refl, sym, ap, subst, ◌∙◌}
 use native.Mathlib.Omega.{arith}
+use borrow.Author.Rules.{rules}
 use lib.IntN.{ℤ}
 use mir.Syntax.{w32}
 use mir.Val.{bool_byte, Fits as FitsIn}
 use lib.ListN.{length, get_or, set, length-set, length-append}
+use Rattle.std.specs.Prelude.{Option, None, Some, Result, Ok, Err, IsSome}
 use Rattle.base.specs.declared.DocNo.{DocNo}
+use Rattle.base.specs.declared.Refusal.{Refusal}
 use Rattle.rules.specs.Rows.{none, doc_at, flag}
 use Rattle.rules.specs.Steps.{visible_at}
 use Rattle.rules.specs.Words.{put, table_of, rows_of}
@@ -18,14 +21,13 @@ use Rattle.laws.proofs.Words.{next-frame-in}
 use Rattle.laws.proofs.Writes.{put-none, put-put, put_four}
 use Rattle.reads.specs.Within.{Within}
 use Rattle.traverses.specs.declared.Change.{Change}
-use Rattle.traverses.specs.declared.Traversed.{Traversed}
 use Rattle.traverses.specs.Answers.{traversed_is}
-use Rattle.traverses.specs.Texts.{NextChange}
+use Rattle.traverses.specs.Texts.{FirstChange, NextChange}
 use Rattle.rows.specs.Readable.{readable_rows}
-use Rattle.traverses.proofs.Texts.{text-whole, climbed}
+use Rattle.traverses.proofs.Texts.{none-before, text-whole, climbed}
 use Rattle.changes.specs.declared.ChangeRow.{ChangeRow}
 use Rattle.changes.specs.declared.Route.{Route}
-use Rattle.changes.specs.Changes.{row_text, plain, Awaits, Follows, read_in, route_text, route_below, AwaitsOn, FollowsOn, Fits, Routes}
+use Rattle.changes.specs.Changes.{row_text, plain, Awaits, Follows, read_in, route_text, route_below, AwaitsOn, FollowsOn, Fits, Routed, Routes}
 
 -- ROWS AND WORDS
 
@@ -70,61 +72,56 @@ plain-same (r ∷ rows) (s ∷ rows') e =
 
 -- THE NEXT ROW
 
-module _ (words : List ℕ) (a b from : ℕ) (h : Awaits words a b from) (c : Change) (n : NextChange (table_of words) a b from c) where
+module _ (words : List ℕ) (a b from : ℕ) (h : Awaits words a b from) where
   -- There is one.
-  pub row-found : c.frame.0 < (table_of words).next_frame
-  row-found = by-lt c.frame.0 (table_of words).next_frame (λ l. l) (λ l. let e = ap length (n.last l) in let s = h.some in absurd (omega arith))
+  pub row-found : (o : Option Change) → NextChange (table_of words) a b from o → IsSome o
+  row-found (Some c) n = search rules
+  row-found None n = let e = ap length n in let s = h.some in absurd (omega arith)
 
-  pub row-places : Within words c.old.0 × Within words c.new.0
-  row-places = (record { fits = h.ready.fits; below = n.first row-found }, record { fits = h.ready.fits; below = n.second row-found })
+  module _ (o : Option Change) (n : NextChange (table_of words) a b from o) (c : Change) (is : o ≡ Some c) where
+    row-first : FirstChange (table_of words) a b from c
+    row-first = subst (NextChange (table_of words) a b from) is n
 
-  row-follows : (old new : DocNo) (v : ℕ) → old.0 ≡ doc_at (rows_of words) c.old.0 → new.0 ≡ doc_at (rows_of words) c.new.0 → v ≡ flag (visible_at (rows_of words) c.new.0) → c.frame.0 < none →
-      Follows words a b from (record { frame = c.frame; before = old; after = new; load = v })
-  row-follows old new v e f g l =
-      record {
-        below = row-found;
-        small = l;
-        more = n.more row-found ∙ rw (e, f, g) refl;
-      }
+    pub row-places : Within words c.old.0 × Within words c.new.0
+    row-places = (record { fits = h.ready.fits; below = row-first.first }, record { fits = h.ready.fits; below = row-first.second })
 
-  -- The row that is made of what is read.
-  pub row_made : (old new : DocNo) (seen : Bool) (r : ChangeRow) → old.0 ≡ doc_at (rows_of words) c.old.0 → new.0 ≡ doc_at (rows_of words) c.new.0 → seen ≡ visible_at (readable_rows words) c.new.0 →
-      FitsIn w32 (get_or words 2 0) → r ≡ record { frame = c.frame; before = old; after = new; load = bool_byte seen } → Follows words a b from r
-  row_made old new seen r e f g l q =
-      subst (Follows words a b from) (sym q) (row-follows old new (bool_byte seen) e f (climbed _ _ _ h.ready.fits g) (omega (arith, l, row-found, next-frame-in words)))
+    -- The row that is made of what is read.
+    pub row_made : (old new : DocNo) (seen : Bool) (v : ℕ) → old.0 ≡ doc_at (rows_of words) c.old.0 → new.0 ≡ doc_at (rows_of words) c.new.0 → seen ≡ visible_at (readable_rows words) c.new.0 → v ≡ bool_byte seen →
+        FitsIn w32 (get_or words 2 0) → Follows words a b from (record { frame = c.frame; before = old; after = new; load = v })
+    row_made old new seen v e f g l w =
+        let k : v ≡ flag (visible_at (rows_of words) c.new.0) = l ∙ climbed _ _ _ h.ready.fits g in
+        let b = row-first.within in
+        record {
+          below = b;
+          small = omega (arith, w, next-frame-in words);
+          more = row-first.more ∙ rw (e, f, k) refl;
+        }
 
 -- THE LOOP
 
 -- i rows are filled, with the route's change rows of the frames numbered below f.
 pub record Filled (words : List ℕ) (route : Route) (old new : List ChangeRow) (i f : ℕ) : Type 0 where
-  pub upto : i ≤ route.count
+  pub upto : i ≤ route.trip.count
   pub within : f ≤ (table_of (read_in words route)).next_frame
   pub size : 4 * i ≡ length (route_below words route f)
   pub same_length : length new ≡ length old
   pub filled : plain new ≡ put (plain old) 0 (route_below words route f)
 
--- The loop's turns: how many rows are filled, the frame number to go on from, and the rows as they are then.
-pub record Turn (words : List ℕ) (route : Route) (old : List ChangeRow) : Type 0 where
-  pub at : ℕ
-  pub from : ℕ
-  pub rows : List ChangeRow
-  pub filled : Filled words route old rows at from
-  pub fits : from < 2 ^ 32
-
 module _ (words : List ℕ) (route : Route) (old : List ChangeRow) (h : Fits words route (length old)) where
-  pub filled-starts : Filled words route old old 0 route.first.0
+  pub filled-starts : Filled words route old old 0 route.trip.first.0
   filled-starts =
-      let e = h.begins.none_below in
-      record { upto = omega arith; within = h.begins.within; size = ap length (sym e); same_length = refl; filled = put-none (plain old) 0 ∙ ap (put (plain old) 0) (sym e) }
+      let x = h.arrived.foremost in
+      let e = none-before (table_of (read_in words route)) route.trip.span.before.0 route.trip.span.after.0 route.trip.first.0 x in
+      record { upto = omega arith; within = x.0.within; size = ap length (sym e); same_length = refl; filled = put-none (plain old) 0 ∙ ap (put (plain old) 0) (sym e) }
 
   module _ (new : List ChangeRow) (i f : ℕ) (s : Filled words route old new i f) where
-    pub filled-awaits : i < route.count → AwaitsOn words route f
+    pub filled-awaits : i < route.trip.count → AwaitsOn words route f
     filled-awaits l =
-        let z = h.sized in
+        let z = h.arrived.sized in
         let y = s.size in
-        record { examined = h.examined (omega arith); awaits = record { ready = h.ready (omega arith); upto = s.within; some = omega arith } }
+        record { examined = h.examined; awaits = record { ready = h.arrived.ready; upto = s.within; some = omega arith } }
 
-    pub filled_more : (r : ChangeRow) → i < route.count → FollowsOn words route f r → (g : ℕ) → g ≡ r.frame.0 + 1 → Filled words route old (set new i r) (i + 1) g
+    pub filled_more : (r : ChangeRow) → i < route.trip.count → FollowsOn words route f r → (g : ℕ) → g ≡ r.frame.0 + 1 → Filled words route old (set new i r) (i + 1) g
     filled_more r l x g e =
         let z = s.size in
         let b = x.below in
@@ -139,19 +136,23 @@ module _ (words : List ℕ) (route : Route) (old : List ChangeRow) (h : Fits wor
               ∙ put-put (route_below words route f) (row_text r) (plain old) 0 ∙ ap (put (plain old) 0) (sym t);
         }
 
-    pub filled-ends : route.count ≤ i → plain new ≡ put (plain old) 0 (route_text words route)
+    pub filled-ends : route.trip.count ≤ i → plain new ≡ put (plain old) 0 (route_text words route)
     filled-ends l =
-        let z = h.sized in
+        let z = h.arrived.sized in
         let y = s.size in
         let u = s.upto in
         let read = read_in words route in
-        s.filled ∙ ap (put (plain old) 0) (text-whole (rows_of read) route.before.0 route.after.0 (table_of read).next_frame f s.within (omega arith))
+        s.filled ∙ ap (put (plain old) 0) (text-whole (rows_of read) route.trip.span.before.0 route.trip.span.after.0 (table_of read).next_frame f s.within (omega arith))
 
 -- THE CALLER
 
-pub traverse-way : (words words' : List ℕ) (root : ℕ) (δ : ℤ) (rows : List ChangeRow) (route : Route) → Routes words root δ (length rows) route words' → (rows' : List ChangeRow) (r : Traversed) →
-    r ≡ route.answer → plain rows' ≡ put (plain rows) 0 (route_text words' route) → outcome (Call.Traverse words root δ (plain rows)) ≡ record { answer = traversed_is r; lent = words' ∷ plain rows' ∷ [] }
-traverse-way words words' root δ rows route h rows' r e f =
-    let l = length-plain rows in
-    let k : length (plain rows) / 4 ≡ length rows = omega arith in
-    h.outcome-is (plain rows) k ∙ rw (f, e) refl
+module _ (words words' : List ℕ) (root : ℕ) (δ : ℤ) (rows : List ChangeRow) where
+  lent-room : length (plain rows) / 4 ≡ length rows
+  lent-room = let l = length-plain rows in omega arith
+
+  pub traverse-stayed : (why : Refusal) → Routes words root δ (length rows) (Err why) words' → outcome (Call.Traverse words root δ (plain rows)) ≡ record { answer = traversed_is (Err why); lent = words' ∷ plain rows ∷ [] }
+  traverse-stayed why h = h (plain rows) lent-room
+
+  pub traverse-went : (route : Route) → Routed words root δ (length rows) route words' → (rows' : List ChangeRow) → plain rows' ≡ put (plain rows) 0 (route_text words' route) →
+      outcome (Call.Traverse words root δ (plain rows)) ≡ record { answer = traversed_is (Ok route.trip.count); lent = words' ∷ plain rows' ∷ [] }
+  traverse-went route h rows' f = h.outcome-is (plain rows) lent-room ∙ rw f refl

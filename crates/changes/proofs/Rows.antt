@@ -14,7 +14,8 @@ use Rattle.rules.specs.Words.{put}
 use Rattle.rules.specs.Calls.{Call, Answer, too_short, window_in, refusals, accepted, outcome, NoneGiven}
 use Rattle.laws.proofs.Tests.{test, same_tests}
 use Rattle.laws.proofs.Calls.{by-ladder, outcome-accepted, outcome-refused, refused-keeps}
-use Rattle.traverses.specs.declared.Traversed.{Traversed}
+use Rattle.std.specs.Prelude.{Result}
+use Rattle.base.specs.declared.Refusal.{Refusal}
 use Rattle.traverses.specs.Answers.{traversed_is}
 use Rattle.changes.specs.declared.ChangeRow.{ChangeRow}
 use Rattle.changes.specs.Changes.{plain, change_in, changes_of}
@@ -62,7 +63,7 @@ abbrev run : ℕ → List (List ℕ) → List ℕ
 run k runs = get_or runs k []
 
 -- Traverse with the rows lent as words, and with the rows: the same answer, the same record, and row for row the same change rows.
-pub row-for-row : (words words₁ words₂ room : List ℕ) (r : ℕ) (δ : ℤ) (rows rows' : List ChangeRow) (r₁ r₂ : Traversed) →
+pub row-for-row : (words words₁ words₂ room : List ℕ) (r : ℕ) (δ : ℤ) (rows rows' : List ChangeRow) (r₁ r₂ : Result ℕ Refusal) →
     outcome (Call.Traverse words r δ (plain rows)) ≡ record { answer = traversed_is r₁; lent = words₁ ∷ room ∷ [] } →
     outcome (Call.Traverse words r δ (plain rows)) ≡ record { answer = traversed_is r₂; lent = words₂ ∷ plain rows' ∷ [] } → (traversed_is r₁ ≡ traversed_is r₂) × (words₁ ≡ words₂) × (room ≡ plain rows')
 row-for-row words words₁ words₂ room r δ rows rows' r₁ r₂ e f =

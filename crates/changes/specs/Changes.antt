@@ -1,17 +1,16 @@
 -- Change rows as plain words, and what the function that fills them relies on. Definitions.
-use Rattle.std.specs.Prelude.{ℕ, ◌+◌, ◌*◌, ◌/◌, ◌≤◌, ◌<◌, Bool, cond, ◌≡◌, eqb, ℤ, length, replicate}
+use Rattle.std.specs.Prelude.{ℕ, ◌+◌, ◌/◌, ◌≤◌, ◌<◌, Bool, cond, Result, Ok, Err, ◌≡◌, eqb, ℤ, length, replicate}
 use Rattle.std.proofs.Math.Bool.{So}
 use mathlib.Core.List.{List, [], ◌∷◌, ◌++◌, flat_map}
-use Rattle.base.specs.declared.FrameNo.{FrameNo}
+use Rattle.base.specs.declared.Refusal.{Refusal}
 use Rattle.rules.specs.Rows.{Row, Table, none, flag}
 use Rattle.rules.specs.Steps.{visible}
 use Rattle.rules.specs.Moves.{walked, frames, shown_doc}
 use Rattle.rules.specs.Words.{put, table_of, rows_of, written}
 use Rattle.rules.specs.Calls.{Call, window_in, outcome}
 use Rattle.sound.specs.Check.{Examined}
-use Rattle.traverses.specs.declared.Shifted.{Shifted}
-use Rattle.traverses.specs.Answers.{traversed_is, answer_of, trip_of}
-use Rattle.traverses.specs.Texts.{text_below, places_text, Begins, Ready}
+use Rattle.traverses.specs.Answers.{traversed_is, trip_text, Arrived}
+use Rattle.traverses.specs.Texts.{text_below, places_text, Ready}
 use Rattle.changes.specs.declared.ChangeRow.{ChangeRow}
 use Rattle.changes.specs.declared.Route.{Route}
 
@@ -61,42 +60,31 @@ read_in words route = cond route.among (written (replicate 2051 0) (window_in wo
 
 -- Their words, and those of the frames numbered below a bound.
 abbrev pub route_text : List ℕ → Route → List ℕ
-route_text words route = places_text (table_of (read_in words route)) route.before.0 route.after.0
+route_text words route = trip_text (read_in words route) route.trip
 
 abbrev pub route_below : List ℕ → Route → ℕ → List ℕ
-route_below words route g = text_below (rows_of (read_in words route)) route.before.0 route.after.0 g
+route_below words route g = text_below (rows_of (read_in words route)) route.trip.span.before.0 route.trip.span.after.0 g
 
 -- It has a change row among the frames from a number on, and the row is the first of those.
 pub record AwaitsOn (words : List ℕ) (route : Route) (from : ℕ) : Type 0 where
   pub examined : So route.among → Examined words
-  pub awaits : Awaits (read_in words route) route.before.0 route.after.0 from
+  pub awaits : Awaits (read_in words route) route.trip.span.before.0 route.trip.span.after.0 from
 
 abbrev pub FollowsOn : List ℕ → Route → ℕ → ChangeRow → Type 0
-FollowsOn words route from row = Follows (read_in words route) route.before.0 route.after.0 from row
+FollowsOn words route from row = Follows (read_in words route) route.trip.span.before.0 route.trip.span.after.0 from row
 
--- So many rows are lent that the route's fit, they are of frames from its first on, and they can be read.
+-- Where they are read its trip has arrived, with so many rows lent.
 pub record Fits (words : List ℕ) (route : Route) (room : ℕ) : Type 0 where
-  pub fits : route.count ≤ room
-  pub sized : 4 * route.count ≡ length (route_text words route)
-  pub begins : Begins (table_of (read_in words route)) route.before.0 route.after.0 route.first.0
-  pub ready : 0 < route.count → Ready (read_in words route) route.before.0 route.after.0
-  pub examined : 0 < route.count → So route.among → Examined words
+  pub arrived : Arrived (read_in words route) room route.trip
+  pub examined : So route.among → Examined words
 
--- The route of a shift.
-abbrev pub route_of : Shifted → FrameNo → Bool → Route
-route_of s root among =
-    record {
-      first = (trip_of s).first;
-      before = (trip_of s).before;
-      after = (trip_of s).after;
-      count = (trip_of s).count;
-      root = root;
-      among = among;
-      answer = answer_of s;
-    }
-
--- The record has become words', and with room lent for so many change rows the outcome is this: the answer, words', and the route's change rows.
-pub record Routes (words : List ℕ) (r : ℕ) (δ : ℤ) (room : ℕ) (route : Route) (words' : List ℕ) : Type 0 where
+-- The window went: the record has become words', and with room lent for so many change rows the outcome is this: how many they are, words', and the route's change rows.
+pub record Routed (words : List ℕ) (r : ℕ) (δ : ℤ) (room : ℕ) (route : Route) (words' : List ℕ) : Type 0 where
   pub outcome-is : (lent : List ℕ) → length lent / 4 ≡ room →
-      outcome (Call.Traverse words r δ lent) ≡ record { answer = traversed_is route.answer; lent = words' ∷ put lent 0 (route_text words' route) ∷ [] }
+      outcome (Call.Traverse words r δ lent) ≡ record { answer = traversed_is (Ok route.trip.count); lent = words' ∷ put lent 0 (route_text words' route) ∷ [] }
   pub fitting : Fits words' route room
+
+-- It went so, or the outcome is a refusal, whatever rows are lent.
+abbrev pub Routes : List ℕ → ℕ → ℤ → ℕ → Result Route Refusal → List ℕ → Type 0
+Routes words r δ room (Ok route) words' = Routed words r δ room route words'
+Routes words r δ room (Err why) words' = (lent : List ℕ) → length lent / 4 ≡ room → outcome (Call.Traverse words r δ lent) ≡ record { answer = traversed_is (Err why); lent = words' ∷ lent ∷ [] }

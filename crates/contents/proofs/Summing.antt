@@ -1,15 +1,14 @@
 -- The contents summed up, frame after frame. Assumes nothing.
 use Prim.Native.Nat.{ℕ, ◌+◌, ◌-◌, ◌*◌, ◌≤◌, ◌<◌}
-use mathlib.Core.Bool.{true, false, false≢true}
-use mathlib.Core.List.{List}
+use mathlib.Core.List.{List, [], ◌∷◌}
 use mathlib.Core.Logic.{◌≢◌}
-use mathlib.Core.Path.{◌≡◌, refl, sym, ap, ap₂, subst, ◌∙◌}
-use native.Mathlib.Nat.{le_antisymm}
+use mathlib.Core.Path.{◌≡◌, refl, sym, ap, ap₂, ◌∙◌}
 use native.Mathlib.Omega.{arith}
 use lib.ListN.{length}
 use Rattle.rules.specs.Below.{sum}
 use Rattle.rules.specs.Saved.{number_at, documents_in, shown_in, entries_in}
 use Rattle.rules.specs.Contents.{position_in, steps_in, not_contents}
+use Rattle.rules.specs.Calls.{Answer}
 use Rattle.laws.specs.Loading.{reading, Fits}
 use Rattle.laws.proofs.Tests.{test, by-lt}
 use Rattle.laws.proofs.Pieces.{sum-within}
@@ -18,15 +17,11 @@ use Rattle.told.specs.declared.Entry.{Entry}
 use Rattle.told.specs.Shapes.{TellsOf}
 use Rattle.told.proofs.Sizing.{sum_more, sum-none}
 use Rattle.contents.specs.declared.Sums.{Sums}
-use Rattle.contents.specs.declared.Reading.{Reading}
-use Rattle.contents.specs.Sums.{Summed, Right, Tallied, Reads}
+use Rattle.contents.specs.Sums.{Summed, Right}
 
 module _ (bytes : List ℕ) where
   pub summed-none : Summed bytes 0 0 0
   summed-none = record { rows_are = sum-none _; back_is = sum-none _; shown = λ i l. absurd (omega arith); few = omega arith; most = omega arith }
-
-  pub tallied-wrong : (s : Sums) → s.fits ≡ false → ((width : ℕ) → Fits width bytes → ⊥) → Tallied bytes s
-  tallied-wrong s f h = record { right = λ t. absurd (false≢true (sym f ∙ t)); wrong = λ g. h }
 
   module _ (j rows back : ℕ) (h : Summed bytes j rows back) (e : Entry) (told : TellsOf bytes j e) where
     -- A shown place that is not below its m.
@@ -50,21 +45,12 @@ module _ (bytes : List ℕ) where
           most = omega arith;
         }
 
-  -- All frames.
-  pub summed-all : (frames j rows back : ℕ) → frames ≡ number_at bytes 0 → 1 ≤ frames → 12 + 16 * frames ≤ length bytes → j ≤ frames → frames ≤ j → Summed bytes j rows back →
-      Tallied bytes (record { frames = frames; rows = rows; back = back; fits = true })
-  summed-all frames j rows back e some room a b h =
-      record {
-        right = λ t. record { frames-are = e; some = some; room = room; all = subst (λ j. Summed bytes j rows back) (le_antisymm a b) h };
-        wrong = λ f. absurd (false≢true (sym f));
-      }
-
   -- THE ANSWER
 
   module _ (width : ℕ) where
-    pub read-wrong : (r : Reading) → r.fits ≡ false → (Fits width bytes → ⊥) → Reads width bytes r
+    pub read-wrong : (Fits width bytes → ⊥) → reading width bytes ≡ record { answer = Answer.refuses 3 []; lent = [] }
     unfolding reading
-    read-wrong r f h = record { right = λ t. absurd (false≢true (sym f ∙ t)); wrong = λ g. test (not_contents width bytes) (λ t. rw t refl) (λ o. absurd (h (fits_out width bytes o))) }
+    read-wrong h = test (not_contents width bytes) (λ t. rw t refl) (λ o. absurd (h (fits_out width bytes o)))
 
     module _ (s : Sums) (r : Right bytes s) where
       -- The documents are those of all frames.
@@ -74,7 +60,7 @@ module _ (bytes : List ℕ) where
       pub not-long : length bytes ≢ 12 + 16 * s.frames + width * s.rows → Fits width bytes → ⊥
       not-long h f = h (f.long ∙ ap₂ (λ n m. 12 + 16 * n + width * m) (sym r.frames-are) (sym entries-are))
 
-      pub read_right : length bytes ≡ 12 + 16 * s.frames + width * s.rows → Reads width bytes (record { position = s.back; steps = s.rows - s.frames; fits = true })
+      pub read_right : length bytes ≡ 12 + 16 * s.frames + width * s.rows → reading width bytes ≡ record { answer = Answer.gives (s.back ∷ (s.rows - s.frames) ∷ []); lent = [] }
       unfolding reading position_in
       read_right e =
           let fits : Fits width bytes = record {
@@ -86,4 +72,4 @@ module _ (bytes : List ℕ) where
           } in
           let back : sum (shown_in bytes) (number_at bytes 0) ≡ s.back = ap (sum (shown_in bytes)) (sym r.frames-are) ∙ sym r.all.back_is in
           let steps : steps_in bytes ≡ s.rows - s.frames = omega (arith, steps-are width bytes fits, r.frames-are, entries-are) in
-          record { right = λ t. rw (fits_in width bytes fits, back, steps) refl; wrong = λ f. absurd (false≢true (sym f)) }
+          rw (fits_in width bytes fits, back, steps) refl

@@ -7,14 +7,11 @@
 
 ghost use Rattle.std.specs.Prelude.{◌<◌};
 
-use base::DocNo;
-use replaces::Replaced;
-use saved::Saving;
+use base::{DocNo, Refusal};
 use std::io;
-use told::Loading;
 
 // No parent.
-const NONE: u32 = 4294967295;
+const NONE: u32 = DocNo::NONE.0;
 
 // Writes bytes, each as a number.
 fn say_bytes(rt: &impl Print, bytes: &[u8]) -> io::Result<()> {
@@ -39,12 +36,19 @@ fn pair() -> [u32; 23] {
     ]
 }
 
-// Bytes of a form: so many of these, and whether it is the old one.
+// The two forms in which a record is saved.
+#[derive(Clone, Copy)]
+enum Version {
+    New,
+    Old,
+}
+
+// Bytes of a form: so many of these.
 #[derive(Clone, Copy)]
 struct Form {
     bytes: [u8; 125],
     len: usize,
-    old: bool,
+    version: Version,
 }
 
 // A record as saved.
@@ -52,16 +56,16 @@ fn saved_of(rt: &impl Print, name: &str, words: &[u32]) -> io::Result<Form> {
     let mut bytes = [0u8; 125];
     let mut len = 0;
     match saved::save(words, &mut bytes) {
-        Saving::Length(n) => {
+        Ok(n) => {
             println!(rt; "{name} has {n} bytes")?;
             len = n;
         }
-        Saving::Refused(_) => println!(rt; "{name} is refused")?,
+        Err(_) => println!(rt; "{name} is refused")?,
     }
     Ok(Form {
         bytes,
         len,
-        old: false,
+        version: Version::New,
     })
 }
 
@@ -83,8 +87,8 @@ fn tell(rt: &impl Print, f: Form) -> io::Result<()> {
 fn saved_renewed(rt: &impl Print) -> io::Result<Form> {
     let mut words = record_x();
     match replaces::replace(&mut words, DocNo(1)) {
-        Replaced::Arrived(d) => println!(rt; "document 1 replaced by {}", d.0)?,
-        Replaced::Refused(_) => println!(rt; "document 1 not replaced")?,
+        Ok(d) => println!(rt; "document 1 replaced by {d}")?,
+        Err(_) => println!(rt; "document 1 not replaced")?,
     }
     saved_of(rt, "X with document 1 replaced", &words)
 }
@@ -115,7 +119,7 @@ fn old_form(whole: Form, head: usize, len: usize) -> Form {
     Form {
         bytes,
         len,
-        old: true,
+        version: Version::Old,
     }
 }
 
@@ -124,30 +128,27 @@ fn all_sevens(words: &[u32]) -> bool {
     words.iter().all(|word| *word == 7)
 }
 
-// Loads bytes by one call or the other.
-fn load(old: bool, words: &mut [u32], bytes: &[u8]) -> Loading {
-    if old {
-        return loads_old::load_old(words, bytes);
+// Loads bytes by the call of a form.
+fn load(version: Version, words: &mut [u32], bytes: &[u8]) -> Result<usize, Refusal> {
+    match version {
+        Version::New => loads::load(words, bytes),
+        Version::Old => loads_old::load_old(words, bytes),
     }
-    loads::load(words, bytes)
 }
 
 // Loads bytes over sevens, and tells the answer.
 fn load_over(
     rt: &impl Print,
     name: &str,
-    old: bool,
+    version: Version,
     words: &mut [u32],
     bytes: &[u8],
 ) -> io::Result<()> {
-    match load(old, words, bytes) {
-        Loading::Rows(n) => println!(rt; "{name}: {n} rows"),
-        Loading::Refused(r) => {
+    match load(version, words, bytes) {
+        Ok(n) => println!(rt; "{name}: {n} rows"),
+        Err(r) => {
             let record = if all_sevens(words) { "kept" } else { "changed" };
-            println!(rt;
-                "{name}: refused {}, record {record}",
-                base::refusal_number(r)
-            )
+            println!(rt; "{name}: refused {r}, record {record}")
         }
     }
 }
@@ -156,13 +157,13 @@ fn load_over(
 fn load_first(
     rt: &impl Print,
     name: &str,
-    old: bool,
+    version: Version,
     words: &mut [u32],
     bytes: &[u8],
     n: usize,
 ) -> io::Result<()> {
     if n <= bytes.len() {
-        load_over(rt, name, old, words, &bytes[0..n])?;
+        load_over(rt, name, version, words, &bytes[0..n])?;
     }
     Ok(())
 }
@@ -171,7 +172,7 @@ fn load_first(
 fn cut(rt: &impl Print, name: &str, f: Form, n: usize) -> io::Result<()> {
     let bytes = f.bytes;
     let mut words = [7u32; 35];
-    load_first(rt, name, f.old, &mut words, &bytes, n)
+    load_first(rt, name, f.version, &mut words, &bytes, n)
 }
 
 // Puts a byte, where there is one.
@@ -195,7 +196,7 @@ fn changed_twice(
     put(&mut bytes, at, v);
     put(&mut bytes, and, w);
     let mut words = [7u32; 35];
-    load_first(rt, name, f.old, &mut words, &bytes, f.len)
+    load_first(rt, name, f.version, &mut words, &bytes, f.len)
 }
 
 // Loads bytes with one of them changed.
@@ -272,13 +273,20 @@ fn records(rt: &impl Print, f: Form) -> io::Result<()> {
 fn rooms(rt: &impl Print, f: Form) -> io::Result<()> {
     let bytes = f.bytes;
     let mut five = [7u32; 23];
-    load_first(rt, "room for five", f.old, &mut five, &bytes, f.len)?;
-    load_first(rt, "room for five, 99 bytes", f.old, &mut five, &bytes, 99)?;
+    load_first(rt, "room for five", f.version, &mut five, &bytes, f.len)?;
+    load_first(
+        rt,
+        "room for five, 99 bytes",
+        f.version,
+        &mut five,
+        &bytes,
+        99,
+    )?;
     let mut six = [7u32; 6];
-    load_first(rt, "6 words", f.old, &mut six, &bytes, f.len)?;
-    load_first(rt, "6 words, no bytes", f.old, &mut six, &bytes, 0)?;
+    load_first(rt, "6 words", f.version, &mut six, &bytes, f.len)?;
+    load_first(rt, "6 words, no bytes", f.version, &mut six, &bytes, 0)?;
     let mut enough = [7u32; 27];
-    load_first(rt, "room for six", f.old, &mut enough, &bytes, f.len)
+    load_first(rt, "room for six", f.version, &mut enough, &bytes, f.len)
 }
 
 // What both forms have alike.
@@ -290,18 +298,33 @@ fn either(rt: &impl Print, f: Form) -> io::Result<()> {
     rooms(rt, f)
 }
 
+// The other form.
+fn other_version(version: Version) -> Version {
+    match version {
+        Version::New => Version::Old,
+        Version::Old => Version::New,
+    }
+}
+
 // The bytes of one form, given to the other's call.
 fn other(rt: &impl Print, name: &str, f: Form) -> io::Result<()> {
     let bytes = f.bytes;
     let mut words = [7u32; 35];
-    load_first(rt, name, !f.old, &mut words, &bytes, f.len)
+    load_first(
+        rt,
+        name,
+        other_version(f.version),
+        &mut words,
+        &bytes,
+        f.len,
+    )
 }
 
 // Loads bytes, saves the record that they tell, and tells the bytes.
 fn again(rt: &impl Print, f: Form) -> io::Result<()> {
     let bytes = f.bytes;
     let mut words = [7u32; 35];
-    load_first(rt, "loaded", f.old, &mut words, &bytes, f.len)?;
+    load_first(rt, "loaded", f.version, &mut words, &bytes, f.len)?;
     let form = saved_of(rt, "what was loaded", &words)?;
     tell(rt, form)
 }

@@ -1,5 +1,6 @@
 -- "Each public call's promise determines answer and lent words for every input": a line a call. Definitions.
-use Rattle.std.specs.Prelude.{ℕ, List, [], ◌∷◌, ◌≡◌, ℤ, Float}
+use Rattle.std.specs.Prelude.{ℕ, List, [], ◌∷◌, Option, Result, Ok, Err, ◌≡◌, ℤ, Float}
+use Rattle.base.specs.declared.Refusal.{Refusal}
 use Rattle.rules.specs.Asks.{stretched}
 use Rattle.rules.specs.Places.{Place, Doubles}
 use Rattle.rules.specs.Calls.{Call, Answer, outcome}
@@ -9,9 +10,8 @@ use Rattle.moves.specs.Answers.{fresh_is, opened_is}
 use Rattle.navigates.specs.Answers.{navigated_is}
 use Rattle.drops.specs.Answers.{dropped_is}
 use Rattle.replaces.specs.Answers.{replaced_is}
-use Rattle.traverses.specs.declared.Traversed.{Traversed}
-use Rattle.traverses.specs.declared.Shifted.{Shifted}
-use Rattle.traverses.specs.Answers.{traversed_is, answer_of, trip_of, trip_text, Shifts}
+use Rattle.traverses.specs.declared.Trip.{Trip}
+use Rattle.traverses.specs.Answers.{traversed_is, answer_of, shift_text, Shifts}
 use Rattle.changes.specs.declared.ChangeRow.{ChangeRow}
 use Rattle.changes.specs.Changes.{plain}
 use Rattle.lists.specs.Answers.{standing_is, listed_is}
@@ -21,8 +21,7 @@ use Rattle.saved.specs.Answers.{saving_is}
 use Rattle.told.specs.Answers.{loading_is}
 use Rattle.contents.specs.Answers.{told_is}
 use Rattle.points.specs.Points.{place_given}
-use Rattle.places.specs.declared.Placed.{Placed}
-use Rattle.places.specs.declared.Placed.TheVariants.{Stands, Refused}
+use Rattle.points.specs.declared.Place.{Place as Given}
 use Rattle.places.specs.Answers.{placed_is, setting_is}
 use Rattle.lines.specs.declared.Command.{Command}
 use Rattle.lines.specs.declared.Reply.{Reply}
@@ -40,12 +39,12 @@ abbrev pub OneResult : {A : Type 0} → (A → Answer) → Call → Type 0
 OneResult {A} is c = AtMostOne (A × List (List ℕ)) λ (r, runs). outcome c ≡ record { answer = is r; lent = runs }
 
 -- The same of a place, whose coordinates are doubles, as the type of the code has them: the bits of a double tell the double.
-abbrev pub OfDoubles : Placed → Type 0
-OfDoubles (Stands p) = Doubles (place_given p)
-OfDoubles (Refused r) = Unit {0}
+abbrev pub OfDoubles : Result Given Refusal → Type 0
+OfDoubles (Ok p) = Doubles (place_given p)
+OfDoubles (Err r) = Unit {0}
 
 abbrev pub OnePlace : Call → Type 0
-OnePlace c = AtMostOne (Placed × List (List ℕ)) λ (r, runs). OfDoubles r × (outcome c ≡ record { answer = placed_is r; lent = runs })
+OnePlace c = AtMostOne (Result Given Refusal × List (List ℕ)) λ (r, runs). OfDoubles r × (outcome c ≡ record { answer = placed_is r; lent = runs })
 
 -- The promise of each public call, over all that it may be handed.
 pub record Determined : Type 0 where
@@ -73,17 +72,17 @@ pub record Determined : Type 0 where
   pub stretch : (takens upcomings : List ℕ) (δ : ℤ) → AtMostOne (List ℕ) λ part. part ≡ stretched takens upcomings δ
   -- Traverse with change rows as structs: the answer, the record and the rows.
   pub traverse-rows : (words : List ℕ) (root : ℕ) (δ : ℤ) (rows : List ChangeRow) →
-      AtMostOne (Traversed × List ℕ × List ChangeRow) λ (r, words', rows').
+      AtMostOne (Result ℕ Refusal × List ℕ × List ChangeRow) λ (r, words', rows').
       outcome (Call.Traverse words root δ (plain rows)) ≡ record { answer = traversed_is r; lent = words' ∷ plain rows' ∷ [] }
   -- The same but for the writing of change rows, in a record of one window: the answer, the record and the words of the change rows, whatever places they are
   -- read between.
   pub shift-sound : (words : List ℕ) (stand : Stand) (δ : ℤ) (room : ℕ) → Located words stand →
-      AtMostOne (Traversed × List ℕ × List ℕ) λ (r, words', text).
-      (s : Shifted) × Shifts words δ room s words' × (answer_of s ≡ r) × (trip_text words' (trip_of s) ≡ text)
+      AtMostOne (Result ℕ Refusal × List ℕ × List ℕ) λ (r, words', text).
+      (s : Result Trip Refusal) × Shifts words δ room s words' × (answer_of s ≡ r) × (shift_text words' s ≡ text)
   -- A line of a script: the reply, the record and the change words; and what a line asks.
   pub turn : (words changes line : List ℕ) →
       AtMostOne (Reply × List ℕ × List ℕ) λ (r, words', changes'). turned words changes line ≡ record { said = reply_is r; words = words'; changes = changes' }
-  pub parse : (line : List ℕ) → AtMostOne Command λ r. command_is r ≡ parse_of line
+  pub parse : (line : List ℕ) → AtMostOne (Option Command) λ r. command_is r ≡ parse_of line
   -- Each call for C, whose out words held `olds`: the number returned, the out words and the lent runs; where fewer values than out words may be given; and with
   -- change rows as structs.
   pub host : (c : Call) (olds : List ℕ) →

@@ -4,117 +4,80 @@
 // among the rows kept so far, and not at all where that is the parent found last or the one missed last.
 #![tactic(auto)]
 
-ghost use Rattle.std.specs.Prelude.{◌≡◌, [], ◌∷◌, ◌-◌, ◌≤◌, ◌<◌, length};
-ghost use Rattle.rules.specs.Rows.{none, in_frame};
-ghost use Rattle.rules.specs.Moves.{without, dropped};
+ghost use Rattle.std.specs.Prelude.{◌≡◌, [], ◌∷◌, ◌-◌, length, Some};
+ghost use Rattle.rules.specs.Moves.{dropped};
 ghost use Rattle.rules.specs.Words.{table_of, rows_of, written};
 ghost use Rattle.rules.specs.Calls.{Call, refusals, NoneGiven, outcome};
 ghost use Rattle.sound.specs.Check.{Examined, Judged};
-ghost use Rattle.packs.specs.Packing.{Over};
 ghost use Rattle.drops.specs.Answers.{dropped_is};
-ghost use Rattle.drops.specs.Frames.{first_row};
+ghost use Rattle.drops.specs.Frames.{first_place};
 
-use asks::Hider;
-use base::{FrameNo, Refusal, RowPlace};
+use base::{DocNo, FrameNo, Refusal, RowPlace};
 use packs::Keeping;
-use reads::NONE;
-use sound::Check;
 
-// The first row of a frame; the rows' end where there is none.
-fn first_of(words: &[u32], frame: FrameNo) -> RowPlace
+// The first row of a frame, if it has one.
+fn first_of(words: &[u32], frame: FrameNo) -> Option<RowPlace>
     requires { Examined words.now }
-    ensures { result.0 ≡ first_row (rows_of words.now) frame.0 }
+    ensures { result ≡ first_place (rows_of words.now) frame.0 }
 {
-    let n = rows::row_count(words);
-    let mut i = 0;
-    while i < n {
-        if reads::frame(words, RowPlace(i)).0 == frame.0 {
-            return RowPlace(i);
+    for i in 0..rows::row_count(words) {
+        if reads::frame(words, RowPlace(i)) == frame {
+            return Some(RowPlace(i));
         }
-        i += 1;
     }
-    RowPlace(n)
+    None
 }
 
-// Whether Drop is refused, and how, of a sound record in which the frame begins there.
-fn judge(words: &[u32], frame: FrameNo, first: RowPlace) -> Check
-    requires { Examined words.now × (first.0 ≡ first_row (rows_of words.now) frame.0) }
+// Refusals 10 and 5, of a sound record in which the frame begins there.
+fn judge(words: &[u32], frame: FrameNo, first: RowPlace) -> Result<(), Refusal>
+    requires { Examined words.now × (first_place (rows_of words.now) frame.0 ≡ Some first) }
     ensures { Judged (Call.Drop words.now frame.0) result }
 {
-    if rows::row_count(words) <= first.0 {
-        return Check::No(Refusal::Absent);
-    }
     let up = reads::parent(words, first);
-    if up.0 == NONE {
-        return Check::No(Refusal::RootFrame);
+    if up == DocNo::NONE {
+        return Err(Refusal::RootFrame);
     }
     let above = packs::place_before(words, first.0, up);
     match asks::hiding(words, above) {
-        Hider::Document(h) => Check::No(Refusal::Hidden(h)),
-        Hider::Nobody => Check::Sound,
+        Some(h) => Err(Refusal::Hidden(h)),
+        None => Ok(()),
     }
-}
-
-// Removes what goes and closes the gaps: the rows before the frame's first stay where they are, and that one goes. How many rows stay.
-fn close_gaps(words: &mut [u32], first: RowPlace, frame: FrameNo) -> usize
-    requires { Examined words.old × ((table_of words.old).next_doc ≤ none) × (first.0 ≡ first_row (rows_of words.old) frame.0) × (first.0 < length (rows_of words.old)) }
-    ensures { Over (without (in_frame (rows_of words.old) frame.0) (rows_of words.old)) words.old result words.new }
-{
-    let n = rows::row_count(words);
-    let found = reads::parent(words, first);
-    let missed = reads::document(words, first);
-    let mut kept = Keeping {
-        rows: first.0,
-        found,
-        missed,
-    };
-    let mut i = first.0 + 1;
-    while i < n {
-        let passes = reads::frame(words, RowPlace(i)).0 == frame.0;
-        kept = packs::turn(words, RowPlace(i), passes, kept);
-        i += 1;
-    }
-    kept.rows
 }
 
 // Takes the frame out where no refusal is given, of a sound record in which it begins there. How many rows went.
 fn take_out(words: &mut [u32], first: RowPlace, frame: FrameNo) -> u32
-    requires { Examined words.old × (first.0 ≡ first_row (rows_of words.old) frame.0) × NoneGiven (refusals (Call.Drop words.old frame.0)) }
+    requires { Examined words.old × (first_place (rows_of words.old) frame.0 ≡ Some first) × NoneGiven (refusals (Call.Drop words.old frame.0)) }
     ensures { (result ≡ length (rows_of words.old) - length (dropped (table_of words.old) frame.0).rows) × (words.new ≡ written words.old (dropped (table_of words.old) frame.0)) }
 {
     let n = rows::row_count(words);
     let next = rows::next_document(words);
     let top = rows::next_frame_number(words);
-    let k = close_gaps(words, first, frame);
+    let start = Keeping {
+        rows: first.0,
+        found: reads::parent(words, first),
+        missed: reads::document(words, first),
+    };
+    let k = packs::close_gaps(words, frame, start);
     packs::end_rows(words, k, n, next, top);
     (n - k) as u32
 }
 
-// What Drop answers: how many rows went.
-#[derive(Clone, Copy)]
-pub enum Dropped {
-    Rows(u32),
-    Refused(Refusal),
-}
-
-// Drops a frame of a sound record.
-fn drop_sound(words: &mut [u32], frame: FrameNo) -> Dropped
+// Drops a frame of a sound record. How many rows went.
+fn drop_sound(words: &mut [u32], frame: FrameNo) -> Result<u32, Refusal>
     requires { Examined words.old }
     ensures { outcome (Call.Drop words.old frame.0) ≡ record { answer = dropped_is result; lent = words.new ∷ [] } }
 {
-    let first = first_of(words, frame);
-    match judge(words, frame, first) {
-        Check::No(r) => Dropped::Refused(r),
-        Check::Sound => Dropped::Rows(take_out(words, first, frame)),
-    }
+    let Some(first) = first_of(words, frame) else {
+        return Err(Refusal::Absent);
+    };
+    judge(words, frame, first)?;
+    Ok(take_out(words, first, frame))
 }
 
-// Takes a frame out, with all beneath it.
-pub fn drop_frame(words: &mut [u32], frame: FrameNo) -> Dropped
+// Takes a frame out, with all beneath it. How many rows went.
+pub fn drop_frame(words: &mut [u32], frame: FrameNo) -> Result<u32, Refusal>
     ensures { outcome (Call.Drop words.old frame.0) ≡ record { answer = dropped_is result; lent = words.new ∷ [] } }
 {
-    match sound::examine(words) {
-        Check::No(r) => Dropped::Refused(r),
-        Check::Sound => drop_sound(words, frame),
-    }
+    sound::examine(words)?;
+    drop_sound(words, frame)
 }

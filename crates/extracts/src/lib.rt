@@ -6,7 +6,7 @@
 #![tactic(auto)]
 
 ghost use Rattle.std.proofs.Math.Bool.{So};
-ghost use Rattle.std.specs.Prelude.{cond, ◌≡◌, ◌+◌, ◌<◌, length, replicate, eqb};
+ghost use Rattle.std.specs.Prelude.{◌≡◌, ◌+◌, ◌<◌, length, replicate, eqb};
 ghost use Rattle.rules.specs.Rows.{row_at, frame_at};
 ghost use Rattle.rules.specs.Windows.{is_root};
 ghost use Rattle.rules.specs.Words.{capacity, rows_of, written};
@@ -17,9 +17,8 @@ ghost use Rattle.sound.specs.Check.{Examined};
 ghost use Rattle.sound.specs.Survey.{alone?, Located, stand_of};
 ghost use Rattle.extracts.specs.Windows.{heads, other_root, FirstOther, Starts, Gathers, Gathered, Scans, Gives, PutBack};
 
-use base::{FrameNo, RowPlace};
+use base::{DocNo, FrameNo, RowPlace};
 use members::{Known, Member};
-use reads::NONE;
 use sound::Stand;
 
 // Whether a row is of a root frame, and that is this one.
@@ -27,7 +26,7 @@ fn is_head(words: &[u32], at: RowPlace, root: FrameNo) -> bool
     requires { Within words.now at.0 }
     ensures { result ≡ heads (rows_of words.now) root.0 at.0 }
 {
-    (reads::frame(words, at).0 == root.0) & (reads::parent(words, at).0 == NONE)
+    (reads::frame(words, at) == root) & (reads::parent(words, at) == DocNo::NONE)
 }
 
 // Whether a frame of a sound record is a root frame.
@@ -36,14 +35,7 @@ pub fn has_root(words: &[u32], root: FrameNo) -> bool
     ensures { result ≡ is_root (rows_of words.now) root.0 }
 {
     let n = rows::row_count(words);
-    let mut i = 0;
-    while i < n {
-        if is_head(words, RowPlace(i), root) {
-            return true;
-        }
-        i += 1;
-    }
-    false
+    (0..n).any(|i| is_head(words, RowPlace(i), root))
 }
 
 // The same of a record of one window: its root frame is that of the first row.
@@ -51,7 +43,7 @@ pub fn is_only_root(words: &[u32], s: Stand, root: FrameNo) -> bool
     requires { Located words.now s }
     ensures { result ≡ is_root (rows_of words.now) root.0 }
 {
-    reads::frame(words, RowPlace(0)).0 == root.0
+    reads::frame(words, RowPlace(0)) == root
 }
 
 // Whether a row is of a root frame, and that is another.
@@ -59,7 +51,7 @@ fn is_other(words: &[u32], at: RowPlace, root: FrameNo) -> bool
     requires { Within words.now at.0 }
     ensures { result ≡ other_root root.0 (rows_of words.now) at.0 }
 {
-    (reads::parent(words, at).0 == NONE) & (reads::frame(words, at).0 != root.0)
+    (reads::parent(words, at) == DocNo::NONE) & (reads::frame(words, at) != root)
 }
 
 // Whether the record begins with a root frame's row. Where it does not, the first row is of another root frame.
@@ -67,7 +59,7 @@ pub fn is_first(words: &[u32], root: FrameNo) -> bool
     requires { Examined words.now }
     ensures { result ≡ eqb (frame_at (rows_of words.now) 0) root.0 }
 {
-    reads::frame(words, RowPlace(0)).0 == root.0
+    reads::frame(words, RowPlace(0)) == root
 }
 
 // The first row of another root frame; the rows' end where there is none.
@@ -76,14 +68,8 @@ pub fn first_other(words: &[u32], root: FrameNo) -> RowPlace
     ensures { FirstOther (rows_of words.now) root.0 result.0 }
 {
     let n = rows::row_count(words);
-    let mut i = 0;
-    while i < n {
-        if is_other(words, RowPlace(i), root) {
-            return RowPlace(i);
-        }
-        i += 1;
-    }
-    RowPlace(n)
+    let first = (0..n).find(|&i| is_other(words, RowPlace(i), root));
+    RowPlace(first.unwrap_or(n))
 }
 
 // Whether a row is of a window, of which the first row of another root frame is told: the rows before that are.
@@ -91,7 +77,7 @@ fn belongs_past(words: &[u32], at: RowPlace, first: RowPlace, root: FrameNo, kno
     requires { Within words.now at.0 × FirstOther (rows_of words.now) root.0 first.0 × Starts root.0 (rows_of words.now) × Recalls root.0 (rows_of words.now) known }
     ensures { Sided root.0 (rows_of words.now) at.0 result }
 {
-    if at.0 < first.0 {
+    if at < first {
         return Member {
             inside: true,
             known,
@@ -108,11 +94,7 @@ fn gather_row(words: &[u32], at: RowPlace, inside: bool, own: &mut [u32], k: usi
     if !inside {
         return k;
     }
-    let document = reads::document(words, at);
-    let frame = reads::frame(words, at);
-    let parent = reads::parent(words, at);
-    let shown = reads::shown(words, at);
-    writes::put_row(own, RowPlace(k), document, frame, parent, shown);
+    writes::put_row(own, RowPlace(k), reads::row(words, at));
     k + 1
 }
 
@@ -121,15 +103,12 @@ fn gather_rows(words: &[u32], root: FrameNo, first: RowPlace, own: &mut [u32]) -
     requires { Examined words.now × FirstOther (rows_of words.now) root.0 first.0 × (own.old ≡ replicate 2051 0) }
     ensures { Gathered root.0 (rows_of words.now) (length (rows_of words.now)) result own.new }
 {
-    let n = rows::row_count(words);
     let mut known = members::nothing_known();
     let mut k = 0;
-    let mut i = 0;
-    while i < n {
+    for i in 0..rows::row_count(words) {
         let m = belongs_past(words, RowPlace(i), first, root, known);
         k = gather_row(words, RowPlace(i), m.inside, own, k);
         known = m.known;
-        i += 1;
     }
     k
 }
@@ -159,54 +138,37 @@ struct Scan {
     high: FrameNo,
 }
 
-// The place after a row where no hidden one was found before it, else the one found.
-fn onward(at: RowPlace, upcoming: RowPlace) -> RowPlace
-    requires { at.0 < 512 }
-    ensures { result.0 ≡ cond (eqb upcoming.0 at.0) (at.0 + 1) upcoming.0 }
-{
-    if upcoming.0 == at.0 {
-        RowPlace(at.0 + 1)
-    } else {
-        upcoming
-    }
-}
-
 // The walk with one row more.
 fn scan_row(own: &[u32], at: RowPlace, s: Scan) -> Scan
     requires { Within own.now at.0 × (0 < at.0) × Scans (rows_of own.now) at.0 s }
     ensures { Scans (rows_of own.now) (at.0 + 1) result }
 {
     let high = reads::higher(s.high, reads::frame(own, at));
-    let last = s.last;
-    let upcoming = s.upcoming;
     if !reads::is_shown(own, at) {
         return Scan {
-            shown: s.shown,
             hidden: s.hidden + 1,
-            taken: s.taken,
-            last,
-            upcoming,
             high,
+            ..s
         };
     }
+    let shown = s.shown + 1;
+    let past = RowPlace(at.0 + 1);
     if reads::is_step(own, at, s.high) {
         return Scan {
-            shown: s.shown + 1,
-            hidden: s.hidden,
+            shown,
             taken: s.hidden,
             last: at,
-            upcoming: RowPlace(at.0 + 1),
+            upcoming: past,
             high,
+            ..s
         };
     }
-    let upcoming = onward(at, upcoming);
+    let upcoming = if s.upcoming == at { past } else { s.upcoming };
     Scan {
-        shown: s.shown + 1,
-        hidden: s.hidden,
-        taken: s.taken,
-        last,
+        shown,
         upcoming,
         high,
+        ..s
     }
 }
 
@@ -217,19 +179,16 @@ fn scan_all(own: &[u32]) -> Scan
 {
     let n = rows::row_count(own);
     let shown = reads::is_shown(own, RowPlace(0));
-    let high = reads::frame(own, RowPlace(0));
     let mut s = Scan {
-        shown: shown as usize,
-        hidden: !shown as usize,
+        shown: usize::from(shown),
+        hidden: usize::from(!shown),
         taken: 0,
         last: RowPlace(0),
         upcoming: RowPlace(1),
-        high,
+        high: reads::frame(own, RowPlace(0)),
     };
-    let mut i = 1;
-    while i < n {
+    for i in 1..n {
         s = scan_row(own, RowPlace(i), s);
-        i += 1;
     }
     s
 }
@@ -240,14 +199,12 @@ pub fn stand_alone(own: &[u32]) -> Stand
     ensures { result ≡ stand_of (rows_of own.now) }
 {
     let s = scan_all(own);
-    let upcoming = s.upcoming;
-    let last = s.last;
     Stand {
         frames: s.shown,
         steps: s.hidden,
         position: s.taken,
-        upcoming,
-        last,
+        upcoming: s.upcoming,
+        last: s.last,
     }
 }
 
@@ -259,7 +216,7 @@ fn give_flag(words: &mut [u32], at: RowPlace, own: &[u32], k: usize) -> usize
     if rows::row_count(own) <= k {
         return k;
     }
-    if reads::document(words, at).0 != reads::document(own, RowPlace(k)).0 {
+    if reads::document(words, at) != reads::document(own, RowPlace(k)) {
         return k;
     }
     writes::put_flag(words, at, reads::shown(own, RowPlace(k)));
@@ -271,11 +228,8 @@ pub fn put_back(words: &mut [u32], own: &[u32])
     requires { Before words.old 0 × Before own.now 0 }
     ensures { PutBack words.old own.now words.new }
 {
-    let n = rows::row_count(words);
     let mut k = 0;
-    let mut i = 0;
-    while i < n {
+    for i in 0..rows::row_count(words) {
         k = give_flag(words, RowPlace(i), own, k);
-        i += 1;
     }
 }

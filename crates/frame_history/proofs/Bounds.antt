@@ -32,10 +32,10 @@ use Rattle.laws.proofs.Contents.{fits_out, steps-are, position-most}
 use Rattle.laws.proofs.Outlines.{outline-bound}
 use Rattle.windows.proofs.Window.{window-length}
 use Rattle.extracts.proofs.Windowed.{window-table}
-use Rattle.traverses.specs.declared.Traversed.{Traversed}
-use Rattle.traverses.specs.declared.Traversed.TheVariants.{Changes, Refused}
-use Rattle.traverses.specs.Answers.{traversed_is}
-use Rattle.frame_history.specs.Face.{Small}
+use Rattle.std.specs.Prelude.{Result, Ok, Err}
+use Rattle.base.specs.declared.Refusal.{Refusal}
+use Rattle.contents.specs.declared.Told.{Told as Contents}
+use Rattle.frame_history.specs.Face.{Small, SmallContents}
 
 -- The k-th value of an answer.
 abbrev value : ℕ → Answer → ℕ
@@ -184,10 +184,14 @@ module _ (words : List ℕ) (a : Answer) (runs : List (List ℕ)) where
       let s = ((sound-is words).0 (not-false _ h.1.0)).table in
       omega (arith, changes-few (window_in words r) δ, frames-among words r, frames-few (table_of words) s, s.s1.fits)
 
--- So Traverse's answer can be told.
-pub traverse-told : (words : List ℕ) (r : ℕ) (δ : ℤ) (room : List ℕ) (answer : Traversed) (runs : List (List ℕ)) → outcome (Call.Traverse words r δ room) ≡ record { answer = traversed_is answer; lent = runs } → Small answer
-traverse-told words r δ room (Changes n) runs e = omega (arith, traverse-small words (Answer.gives (n ∷ [])) runs r δ room n e refl)
-traverse-told words r δ room (Refused why) runs e = tt
+-- What is answered can be told, if it is small where it is given.
+pub small-count : (answer : Result ℕ Refusal) → ((n : ℕ) → answer ≡ Ok n → n ≤ 2147483648) → Small answer
+small-count (Ok n) h = omega (arith, h n refl)
+small-count (Err r) h = tt
+
+pub small-contents : (answer : Result Contents Refusal) → ((t : Contents) → answer ≡ Ok t → (t.position ≤ 512) × (t.steps ≤ 512)) → SmallContents answer
+small-contents (Ok t) h = let b = h t refl in (omega arith, omega arith)
+small-contents (Err r) h = tt
 
 -- The magnitude of an amount of 32 bits.
 magnitude-small : (δ : ℤ) → SFits w32 δ → nat_abs δ ≤ 2147483648

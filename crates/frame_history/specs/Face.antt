@@ -1,15 +1,16 @@
 -- What a host sees of a call. Definitions.
-use Rattle.std.specs.Prelude.{ℕ, ◌<◌, ◌^◌, List, [], ◌∷◌, ◌≡◌, Float}
+use Rattle.std.specs.Prelude.{ℕ, ◌<◌, ◌^◌, List, [], ◌∷◌, Result, Ok, Err, ◌≡◌, Float}
 use Rattle.std.specs.Float.{binary64}
 use Rattle.std.specs.Float.Ieee.{to_bits}
 use Rattle.rules.specs.Words.{put}
 use Rattle.rules.specs.Calls.{Answer, Outcome}
-use Rattle.traverses.specs.declared.Traversed.{Traversed}
-use Rattle.traverses.specs.declared.Traversed.TheVariants.{Changes, Refused}
-use Rattle.traverses.specs.Answers.{traversed_is}
-use Rattle.places.specs.declared.Placed.{Placed}
-use Rattle.places.specs.declared.Setting.{Setting}
-use Rattle.places.specs.Answers.{placed_is, setting_is}
+use Rattle.places.specs.Answers.{placed_is}
+use Rattle.contents.specs.declared.Told.{Told as Contents}
+use Rattle.contents.specs.Answers.{told_is}
+use Rattle.points.specs.declared.Place.{Place}
+use Rattle.base.specs.declared.DocNo.{DocNo}
+use Rattle.base.specs.declared.Refusal.{Refusal}
+use Rattle.base.specs.Answers.{answered}
 
 -- The number returned, what the out words hold then, and what the runs hold then that were lent to write in.
 pub record Face : Type 0 where
@@ -43,18 +44,32 @@ pub record HidingFace : Type 0 where
 abbrev pub hiding_face : Outcome → List ℕ → ℕ → HidingFace
 hiding_face o olds old = record { seen = face o olds; hiding = hiding_in o.answer old }
 
--- The number of change rows fits a word.
-abbrev pub Small : Traversed → Type 0
-Small (Changes n) = n < 2 ^ 32
-Small (Refused r) = Unit {0}
+-- A count fits a word.
+abbrev pub Small : Result ℕ Refusal → Type 0
+Small (Ok n) = n < 2 ^ 32
+Small (Err r) = Unit {0}
 
--- What a host sees of Traverse's answer, whatever the runs hold then.
-abbrev pub Told : Traversed → ℕ → ℕ → ℕ → Type 0
-Told answer old new number = (runs : List (List ℕ)) → shown (traversed_is answer) (old ∷ []) runs ≡ record { number = number; outs = new ∷ []; lent = runs }
+-- What a host sees of an answer that is a count, whatever the runs hold then.
+abbrev pub ToldCount : Result ℕ Refusal → ℕ → ℕ → ℕ → Type 0
+ToldCount answer old new number = (runs : List (List ℕ)) → shown (answered (λ n. n ∷ []) answer) (old ∷ []) runs ≡ record { number = number; outs = new ∷ []; lent = runs }
 
--- What a host sees of a setting, whatever the runs hold then.
-abbrev pub ToldSetting : Setting → ℕ → Type 0
-ToldSetting answer number = (runs : List (List ℕ)) → shown (setting_is answer) [] runs ≡ record { number = number; outs = []; lent = runs }
+-- What a host sees of an answer without values.
+abbrev pub ToldDone : Result (Unit {0}) Refusal → ℕ → Type 0
+ToldDone answer number = (runs : List (List ℕ)) → shown (answered (λ _. []) answer) [] runs ≡ record { number = number; outs = []; lent = runs }
+
+-- What a host sees of an answer that is a document, and whose refusal 5 carries one.
+abbrev pub ToldDocument : Result DocNo Refusal → ℕ → ℕ → ℕ → ℕ → ℕ → Type 0
+ToldDocument answer old carried new carried' number = (runs : List (List ℕ)) →
+    hiding_face (record { answer = answered (λ d. d.0 ∷ []) answer; lent = runs }) (old ∷ []) carried
+    ≡ record { seen = record { number = number; outs = new ∷ []; lent = runs }; hiding = carried' }
+
+-- Position and steps of the contents fit a word each, and what a host sees of them.
+abbrev pub SmallContents : Result Contents Refusal → Type 0
+SmallContents (Ok told) = (told.position < 2 ^ 32) × (told.steps < 2 ^ 32)
+SmallContents (Err r) = Unit {0}
+
+abbrev pub ToldContents : Result Contents Refusal → ℕ → ℕ → ℕ → ℕ → ℕ → Type 0
+ToldContents answer p s p' s' number = (runs : List (List ℕ)) → shown (told_is answer) (p ∷ s ∷ []) runs ≡ record { number = number; outs = p' ∷ s' ∷ []; lent = runs }
 
 -- An answer as a host sees it where a call may give fewer values than there are out words: those past them keep what they held.
 abbrev pub shown_over : Answer → List ℕ → List (List ℕ) → Face
@@ -69,5 +84,5 @@ abbrev pub place_outs : ℕ → Float → Float → List ℕ
 place_outs kind x y = kind ∷ to_bits binary64 x ∷ to_bits binary64 y ∷ []
 
 -- What a host sees of a place's answer, whatever the runs hold then.
-abbrev pub ToldPlace : Placed → List ℕ → List ℕ → ℕ → Type 0
+abbrev pub ToldPlace : Result Place Refusal → List ℕ → List ℕ → ℕ → Type 0
 ToldPlace answer olds news number = (runs : List (List ℕ)) → shown_over (placed_is answer) olds runs ≡ record { number = number; outs = news; lent = runs }

@@ -7,31 +7,20 @@ ghost use Rattle.rules.specs.Places.{Place as Paper};
 ghost use Rattle.rules.specs.Calls.{Call, outcome};
 ghost use Rattle.changes.specs.Changes.{plain};
 ghost use Rattle.base.specs.Numbers.{number_of, carried_by};
-ghost use Rattle.frame_history.specs.Face.{face, carried_or, hiding_face, face_over, Small, Told, ToldSetting, place_outs, ToldPlace};
+ghost use Rattle.frame_history.specs.Face.{face, carried_or, hiding_face, face_over, Small, SmallContents, ToldDone, ToldCount, ToldDocument, ToldContents, place_outs, ToldPlace};
 
-use asks::{Sight, Stretched};
-use base::{Carried, DocNo, FrameNo, Refusal};
+use base::{DocNo, FrameNo, Refusal};
 use changes::ChangeRow;
-use drops::Dropped;
-use lists::{Listed, Standing};
-use moves::{Freshened, Opened};
-use navigates::Navigated;
-use outlines::Outlined;
-use places::{Placed, Setting};
+use contents::Told;
 use points::{Place, Point};
-use reads::NONE;
-use replaces::Replaced;
-use saved::Saving;
-use told::Loading;
-use traverses::Traversed;
 
 // The document that a refusal carries, or what was there.
 fn carried_or(why: Refusal, old: u32) -> u32
     ensures { result ≡ carried_or (carried_by why) old }
 {
-    match base::refusal_carries(why) {
-        Carried::Document(d) => d.0,
-        Carried::Nothing => old,
+    match why.carried() {
+        Some(d) => d.0,
+        None => old,
     }
 }
 
@@ -40,17 +29,52 @@ fn refused(why: Refusal, hiding: &mut u32) -> u32
     ensures { (result ≡ number_of why) × (hiding.new ≡ carried_or (carried_by why) hiding.old) }
 {
     *hiding = carried_or(why, *hiding);
-    base::refusal_number(why)
+    u32::from(why)
+}
+
+// What a host sees of an answer without values.
+fn told_done(answer: Result<(), Refusal>) -> u32
+    ensures { ToldDone answer result }
+{
+    match answer {
+        Ok(()) => 0,
+        Err(r) => u32::from(r),
+    }
+}
+
+// What a host sees of an answer that is a count: that through its out word.
+fn told_count(answer: Result<usize, Refusal>, count: &mut u32) -> u32
+    requires { Small answer }
+    ensures { ToldCount answer count.old count.new result }
+{
+    match answer {
+        Ok(n) => {
+            *count = n as u32;
+            0
+        }
+        Err(r) => u32::from(r),
+    }
+}
+
+// What a host sees of an answer that is a document: that through its out word, and through another the document that a refusal carries.
+fn told_document(answer: Result<DocNo, Refusal>, document: &mut u32, hiding: &mut u32) -> u32
+    ensures { ToldDocument answer document.old hiding.old document.new hiding.new result }
+{
+    match answer {
+        Ok(d) => {
+            *document = d.0;
+            0
+        }
+        Err(why) => refused(why, hiding),
+    }
 }
 
 // Writes the record of a new window: one document in the root frame.
 pub fn frame_history_fresh(words: &mut [u32]) -> u32
     ensures { face (outcome (Call.Fresh words.old)) [] ≡ record { number = result; outs = []; lent = words.new ∷ [] } }
 {
-    match moves::fresh(words) {
-        Freshened::Done => 0,
-        Freshened::Refused(r) => base::refusal_number(r),
-    }
+    let answer = moves::fresh(words);
+    told_done(answer)
 }
 
 // Opens a frame under a visible document: the numbers of the new document and its frame.
@@ -65,12 +89,12 @@ pub fn frame_history_open(
         ≡ record { seen = record { number = result; outs = document.new ∷ frame.new ∷ []; lent = words.new ∷ [] }; hiding = hiding.new } }
 {
     match moves::open_frame(words, DocNo(parent)) {
-        Opened::Numbers(d, f) => {
-            *document = d.0;
-            *frame = f.0;
+        Ok(opened) => {
+            *document = opened.document.0;
+            *frame = opened.frame.0;
             0
         }
-        Opened::Refused(r) => refused(r, hiding),
+        Err(r) => refused(r, hiding),
     }
 }
 
@@ -80,12 +104,12 @@ pub fn frame_history_tab(words: &mut [u32], document: &mut u32, frame: &mut u32)
         ≡ record { number = result; outs = document.new ∷ frame.new ∷ []; lent = words.new ∷ [] } }
 {
     match moves::open_window(words) {
-        Opened::Numbers(first, root) => {
-            *document = first.0;
-            *frame = root.0;
+        Ok(window) => {
+            *document = window.document.0;
+            *frame = window.frame.0;
             0
         }
-        Opened::Refused(r) => base::refusal_number(r),
+        Err(r) => u32::from(r),
     }
 }
 
@@ -99,13 +123,8 @@ pub fn frame_history_navigate(
     ensures { hiding_face (outcome (Call.Navigate words.old from)) (document.old ∷ []) hiding.old
         ≡ record { seen = record { number = result; outs = document.new ∷ []; lent = words.new ∷ [] }; hiding = hiding.new } }
 {
-    match navigates::navigate(words, DocNo(from)) {
-        Navigated::Arrived(d) => {
-            *document = d.0;
-            0
-        }
-        Navigated::Refused(r) => refused(r, hiding),
-    }
+    let answer = navigates::navigate(words, DocNo(from));
+    told_document(answer, document, hiding)
 }
 
 // Takes a frame out, with all beneath it: how many rows went.
@@ -114,11 +133,11 @@ pub fn frame_history_drop(words: &mut [u32], frame: u32, removed: &mut u32, hidi
         ≡ record { seen = record { number = result; outs = removed.new ∷ []; lent = words.new ∷ [] }; hiding = hiding.new } }
 {
     match drops::drop_frame(words, FrameNo(frame)) {
-        Dropped::Rows(n) => {
+        Ok(n) => {
             *removed = n;
             0
         }
-        Dropped::Refused(r) => refused(r, hiding),
+        Err(r) => refused(r, hiding),
     }
 }
 
@@ -132,27 +151,8 @@ pub fn frame_history_replace(
     ensures { hiding_face (outcome (Call.Replace words.old document)) (replacement.old ∷ []) hiding.old
         ≡ record { seen = record { number = result; outs = replacement.new ∷ []; lent = words.new ∷ [] }; hiding = hiding.new } }
 {
-    match replaces::replace(words, DocNo(document)) {
-        Replaced::Arrived(d) => {
-            *replacement = d.0;
-            0
-        }
-        Replaced::Refused(r) => refused(r, hiding),
-    }
-}
-
-// What a host sees of Traverse's answer: the count through its out word, and the refusal's number.
-fn told(answer: Traversed, count: &mut u32) -> u32
-    requires { Small answer }
-    ensures { Told answer count.old count.new result }
-{
-    match answer {
-        Traversed::Changes(n) => {
-            *count = n as u32;
-            0
-        }
-        Traversed::Refused(r) => base::refusal_number(r),
-    }
+    let answer = replaces::replace(words, DocNo(document));
+    told_document(answer, replacement, hiding)
 }
 
 // Traverses a window by a signed amount: how many change rows are written, of four words each.
@@ -167,7 +167,7 @@ pub fn frame_history_traverse(
         ≡ record { number = result; outs = count.new ∷ []; lent = words.new ∷ changes.new ∷ [] } }
 {
     let answer = traverses::traverse(words, FrameNo(root), delta, changes);
-    told(answer, count)
+    told_count(answer, count)
 }
 
 // Traverses a window by a signed amount: how many change rows are written, into rows lent as structs.
@@ -182,7 +182,7 @@ pub fn frame_history_traverse_rows(
         ≡ record { number = result; outs = count.new ∷ []; lent = words.new ∷ plain rows.new ∷ [] } }
 {
     let answer = changes::traverse(words, FrameNo(root), delta, rows);
-    told(answer, count)
+    told_count(answer, count)
 }
 
 // Position and steps of a window, and the length for scripts.
@@ -197,13 +197,13 @@ pub fn frame_history_position(
         ≡ record { number = result; outs = position.new ∷ steps.new ∷ length.new ∷ []; lent = [] } }
 {
     match lists::position(words, FrameNo(root)) {
-        Standing::At(p, s, l) => {
-            *position = p as u32;
-            *steps = s as u32;
-            *length = l as u32;
+        Ok(s) => {
+            *position = s.position as u32;
+            *steps = s.steps as u32;
+            *length = s.length as u32;
             0
         }
-        Standing::Refused(r) => base::refusal_number(r),
+        Err(r) => u32::from(r),
     }
 }
 
@@ -219,19 +219,21 @@ pub fn frame_history_visible(
         ≡ record { number = result; outs = answer.new ∷ hiding.new ∷ links.new ∷ []; lent = [] } }
 {
     match asks::visible(words, DocNo(document)) {
-        Sight::Visible(n) => {
-            *answer = 1;
-            *hiding = NONE;
-            *links = n;
+        Ok(sight) => {
+            match sight.hider {
+                None => {
+                    *answer = 1;
+                    *hiding = DocNo::NONE.0;
+                }
+                Some(h) => {
+                    *answer = 0;
+                    *hiding = h.0;
+                }
+            }
+            *links = sight.links;
             0
         }
-        Sight::Hidden(h, n) => {
-            *answer = 0;
-            *hiding = h.0;
-            *links = n;
-            0
-        }
-        Sight::Refused(r) => base::refusal_number(r),
+        Err(r) => u32::from(r),
     }
 }
 
@@ -248,12 +250,12 @@ pub fn frame_history_lists(
         ≡ record { number = result; outs = takens.new ∷ upcomings.new ∷ []; lent = taken.new ∷ upcoming.new ∷ [] } }
 {
     match lists::lists(words, FrameNo(root), taken, upcoming) {
-        Listed::Counts(t, u) => {
-            *takens = t as u32;
-            *upcomings = u as u32;
+        Ok(listed) => {
+            *takens = listed.taken as u32;
+            *upcomings = listed.upcoming as u32;
             0
         }
-        Listed::Refused(r) => base::refusal_number(r),
+        Err(r) => u32::from(r),
     }
 }
 
@@ -267,13 +269,8 @@ pub fn frame_history_stretch<'a>(
     ensures { face (outcome (Call.StretchCount taken.now upcoming.now delta)) (count.old ∷ [])
         ≡ record { number = result; outs = count.new ∷ []; lent = [] } }
 {
-    match asks::stretch_count(taken, upcoming, delta) {
-        Stretched::Count(n) => {
-            *count = n as u32;
-            0
-        }
-        Stretched::Refused(r) => base::refusal_number(r),
-    }
+    let answer = asks::stretch_count(taken, upcoming, delta);
+    told_count(answer, count)
 }
 
 // The visible documents of a window with their depths: how many pairs are written, of two words each.
@@ -281,13 +278,8 @@ pub fn frame_history_outline(words: &[u32], root: u32, pairs: &mut [u32], count:
     ensures { face (outcome (Call.Outline words.now root pairs.old)) (count.old ∷ [])
         ≡ record { number = result; outs = count.new ∷ []; lent = pairs.new ∷ [] } }
 {
-    match outlines::outline(words, FrameNo(root), pairs) {
-        Outlined::Pairs(n) => {
-            *count = n as u32;
-            0
-        }
-        Outlined::Refused(r) => base::refusal_number(r),
-    }
+    let answer = outlines::outline(words, FrameNo(root), pairs);
+    told_count(answer, count)
 }
 
 // Writes the saved form of a record: its length in bytes.
@@ -295,13 +287,8 @@ pub fn frame_history_save(words: &[u32], bytes: &mut [u8], length: &mut u32) -> 
     ensures { face (outcome (Call.Save words.now bytes.old)) (length.old ∷ [])
         ≡ record { number = result; outs = length.new ∷ []; lent = bytes.new ∷ [] } }
 {
-    match saved::save(words, bytes) {
-        Saving::Length(n) => {
-            *length = n as u32;
-            0
-        }
-        Saving::Refused(r) => base::refusal_number(r),
-    }
+    let answer = saved::save(words, bytes);
+    told_count(answer, length)
 }
 
 // Fills a record from bytes that Save wrote: how many rows it has.
@@ -309,13 +296,8 @@ pub fn frame_history_load(words: &mut [u32], bytes: &[u8], rows: &mut u32) -> u3
     ensures { face (outcome (Call.Load words.old bytes.now)) (rows.old ∷ [])
         ≡ record { number = result; outs = rows.new ∷ []; lent = words.new ∷ [] } }
 {
-    match loads::load(words, bytes) {
-        Loading::Rows(n) => {
-            *rows = n as u32;
-            0
-        }
-        Loading::Refused(r) => base::refusal_number(r),
-    }
+    let answer = loads::load(words, bytes);
+    told_count(answer, rows)
 }
 
 // Fills a record from bytes of the old form: how many rows it has.
@@ -323,12 +305,22 @@ pub fn frame_history_load_old(words: &mut [u32], bytes: &[u8], rows: &mut u32) -
     ensures { face (outcome (Call.LoadOld words.old bytes.now)) (rows.old ∷ [])
         ≡ record { number = result; outs = rows.new ∷ []; lent = words.new ∷ [] } }
 {
-    match loads_old::load_old(words, bytes) {
-        Loading::Rows(n) => {
-            *rows = n as u32;
+    let answer = loads_old::load_old(words, bytes);
+    told_count(answer, rows)
+}
+
+// What a host sees of the contents: position and steps through their out words.
+fn told_contents(answer: Result<Told, Refusal>, position: &mut u32, steps: &mut u32) -> u32
+    requires { SmallContents answer }
+    ensures { ToldContents answer position.old steps.old position.new steps.new result }
+{
+    match answer {
+        Ok(told) => {
+            *position = told.position as u32;
+            *steps = told.steps as u32;
             0
         }
-        Loading::Refused(r) => base::refusal_number(r),
+        Err(r) => u32::from(r),
     }
 }
 
@@ -337,14 +329,8 @@ pub fn frame_history_contents(bytes: &[u8], position: &mut u32, steps: &mut u32)
     ensures { face (outcome (Call.Contents bytes.now)) (position.old ∷ steps.old ∷ [])
         ≡ record { number = result; outs = position.new ∷ steps.new ∷ []; lent = [] } }
 {
-    match contents::contents(bytes) {
-        contents::Told::At(back, all) => {
-            *position = back as u32;
-            *steps = all as u32;
-            0
-        }
-        contents::Told::Refused(r) => base::refusal_number(r),
-    }
+    let answer = contents::contents(bytes);
+    told_contents(answer, position, steps)
 }
 
 // The same of bytes of the old form.
@@ -352,24 +338,8 @@ pub fn frame_history_contents_old(bytes: &[u8], position: &mut u32, steps: &mut 
     ensures { face (outcome (Call.ContentsOld bytes.now)) (position.old ∷ steps.old ∷ [])
         ≡ record { number = result; outs = position.new ∷ steps.new ∷ []; lent = [] } }
 {
-    match contents::contents_old(bytes) {
-        contents::Told::At(back, all) => {
-            *position = back as u32;
-            *steps = all as u32;
-            0
-        }
-        contents::Told::Refused(r) => base::refusal_number(r),
-    }
-}
-
-// What a host sees of a setting: 0, or the refusal's number.
-fn told_setting(answer: Setting) -> u32
-    ensures { ToldSetting answer result }
-{
-    match answer {
-        Setting::Done => 0,
-        Setting::Refused(r) => base::refusal_number(r),
-    }
+    let answer = contents::contents_old(bytes);
+    told_contents(answer, position, steps)
 }
 
 // Sets that the page of a document places itself.
@@ -378,7 +348,7 @@ pub fn frame_history_place_itself(words: &[u32], places: &mut [u64], document: u
         ≡ record { number = result; outs = []; lent = places.new ∷ [] } }
 {
     let answer = places::set_place(words, places, DocNo(document), Place::Itself);
-    told_setting(answer)
+    told_done(answer)
 }
 
 // Sets a document's place at a point.
@@ -387,27 +357,25 @@ pub fn frame_history_place_at(words: &[u32], places: &mut [u64], document: u32, 
         ≡ record { number = result; outs = []; lent = places.new ∷ [] } }
 {
     let answer = places::set_place(words, places, DocNo(document), Place::At(point));
-    told_setting(answer)
+    told_done(answer)
 }
 
 // What a host sees of a place: its kind, and the point through its out doubles, which keep what they hold where the page places itself.
-fn told_place(answer: Placed, kind: &mut u32, x: &mut f64, y: &mut f64) -> u32
+fn told_place(answer: Result<Place, Refusal>, kind: &mut u32, x: &mut f64, y: &mut f64) -> u32
     ensures { ToldPlace answer (place_outs kind.old x.old y.old) (place_outs kind.new x.new y.new) result }
 {
     match answer {
-        Placed::Refused(r) => base::refusal_number(r),
-        Placed::Stands(place) => match place {
-            Place::Itself => {
-                *kind = 0;
-                0
-            }
-            Place::At(p) => {
-                *kind = 1;
-                *x = p.x;
-                *y = p.y;
-                0
-            }
-        },
+        Ok(Place::Itself) => {
+            *kind = 0;
+            0
+        }
+        Ok(Place::At(p)) => {
+            *kind = 1;
+            *x = p.x;
+            *y = p.y;
+            0
+        }
+        Err(r) => u32::from(r),
     }
 }
 

@@ -9,10 +9,10 @@ use lib.IntN.{ℤ, pos, negsuc}
 use lib.ListN.{length, get_or, take, drop, length-append, get_or-append}
 use lib.Seq.{split_at, take-length, take-append_seam, drop-append-add, get_or-append_seam}
 use borrow.Author.Tests.{lt-ltb, le-ltb, eq-eqb, eqb-true, ne_eqb}
+use Rattle.std.specs.Prelude.{Option}
 use Rattle.laws.proofs.Loops.{earliest-out, earliest-in}
 use Rattle.lines.specs.Decimal.{decimal, signed, numeral}
 use Rattle.lines.specs.Lines.{numbered, blank?, blank_at, root_named, going_by, going}
-use Rattle.lines.specs.declared.Number.{Number}
 use Rattle.lines.proofs.Spelling.{spells}
 
 -- A text without a blank.
@@ -56,7 +56,7 @@ module _ (text : List ℕ) (solid : Solid text) where
           none_before = λ m l. rw (get_or-append text (32 ∷ rest) 0 m l) (solid m l);
         }))
 
-    pub going-both : (k : Number) → numeral 4294967295 rest ≡ k → going both ≡ numbered (λ r. going_by r text) k
+    pub going-both : (k : Option ℕ) → numeral 4294967295 rest ≡ k → going both ≡ numbered (λ r. going_by r text) k
     unfolding going root_named
     going-both k e = rw (blank-after, lt-ltb (length text) (length both) (omega (arith, both-length)), take-append_seam text (32 ∷ rest), drop-append-add text (32 ∷ rest) 1, e) refl
 

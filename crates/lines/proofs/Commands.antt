@@ -1,114 +1,124 @@
--- What a line asks, test by test. In each, b is what the test answered. Assumes nothing.
+-- What a line asks, test by test. Assumes nothing.
 use Prim.Native.Nat.{ℕ, ◌+◌, ◌-◌, ◌≤◌, ◌<◌}
 use mathlib.Core.Bool.{Bool, true, false}
-use mathlib.Core.List.{List}
+use mathlib.Core.List.{List, [], ◌∷◌}
 use mathlib.Core.Path.{◌≡◌, refl, sym, ◌∙◌}
 use native.Mathlib.Omega.{arith}
+use lib.Dec.{eqb, ltb}
 use lib.ListN.{length, drop, take, length-drop}
+use lib.Pointwise.{pointwise}
 use lib.Seq.{take_all}
-use borrow.Author.Tests.{lt-ltb, le-ltb, eq-eqb, ne_eqb}
-use Rattle.laws.proofs.Tests.{by-lt, clash}
+use borrow.Author.Tests.{lt-ltb, le-ltb, ltb-true, ltb-false}
+use Rattle.std.specs.Prelude.{Option, Some, None}
+use Rattle.std.specs.Bool.{then_some}
+use Rattle.std.specs.List.{position, position_or_len}
+use Rattle.std.proofs.lemmas.List.Sums.{position_or_len_is}
+use Rattle.laws.proofs.Tests.{test}
 use Rattle.laws.proofs.Loops.{earliest-out}
 use Rattle.lines.specs.Decimal.{numeral}
-use Rattle.lines.specs.Lines.{Command, open_word, nav_word, go_word, drop_word, replace_word, tab_word, starts?, minus?, opening, navigating, dropping, replacement, forth, back, going_by, blank_at, root_named, going, tab?, other_word, worded, parse}
-use Rattle.lines.specs.declared.Number.{Number}
-use Rattle.lines.specs.declared.Number.TheVariants.{Is, Nothing}
-use Rattle.lines.proofs.Numerals.{minus-empty}
+use Rattle.lines.specs.Lines.{Command, open_word, nav_word, go_word, drop_word, replace_word, tab_word, starts?, minus?, numbered, opening, navigating, dropping, replacement, forth, back, going_by, blank_at, root_named, going, tab?, other_word, worded, parse, command_is}
+use Rattle.lines.specs.declared.Command.TheVariants.{Tab}
+use Rattle.lines.proofs.Firsts.{prefix_is, minus_is, tab_is}
+
+-- What std says of a line with a word first and these bytes after it, and of one without.
+abbrev pub Found : List ℕ → List ℕ → List ℕ → Type 0
+Found word line rest = (pointwise eqb (take (length word) line) word ≡ true) × (rest ≡ drop (length word) line) × (length rest + length word ≡ length line)
+
+abbrev pub Lacks : List ℕ → List ℕ → Type 0
+Lacks word line = pointwise eqb (take (length word) line) word ≡ false
+
+found : (word line rest : List ℕ) → Found word line rest → starts? word line ≡ true
+found word line rest h = sym (prefix_is word line) ∙ h.0
+
+lacks : (word line : List ℕ) → Lacks word line → starts? word line ≡ false
+lacks word line h = sym (prefix_is word line) ∙ h
+
+-- In what follows k is the number that is read in what follows a word.
+
+module _ (text : List ℕ) (w : ℕ) (k : Option ℕ) where
+  -- An amount in window w, with a minus and without.
+  pub going_back : (rest : List ℕ) → Found (45 ∷ []) text rest → k ≡ numeral 2147483648 rest → back w k ≡ going_by w text
+  unfolding going_by
+  going_back rest h e = let m : minus? text ≡ true = sym (minus_is text) ∙ h.0 in rw (m, e, h.1) refl
+
+  pub going_forth : Lacks (45 ∷ []) text → k ≡ numeral 2147483647 text → forth w k ≡ going_by w text
+  unfolding going_by
+  going_forth h e = let m : minus? text ≡ false = sym (minus_is text) ∙ h in rw (m, e) refl
 
 -- A part to the end.
-pub to_end : (text : List ℕ) (i : ℕ) → i ≤ length text → take (length text - i) (drop i text) ≡ drop i text
+to_end : (text : List ℕ) (i : ℕ) → i ≤ length text → take (length text - i) (drop i text) ≡ drop i text
 to_end text i l = take_all (length text - i) (drop i text) (omega (arith, length-drop i text))
 
 module _ (text : List ℕ) where
-  -- Where there is a minus there is a byte.
-  pub minus-long : (b : Bool) → b ≡ minus? text → b ≡ true → 1 ≤ length text
-  minus-long b e t = by-lt 0 (length text) (λ l. l) (λ l. absurd (clash (sym e ∙ t) (sym (minus-empty text (omega arith)))))
+  -- The first blank, as std finds it.
+  blank-is : position_or_len (λ b. eqb b 32) text ≡ blank_at text
+  blank-is = let e = earliest-out _ (length text) in position_or_len_is (λ b. eqb b 32) text (blank_at text) 0 e.within e.none_before e.passes
 
-  -- An amount in window w, with a minus and without.
-  pub going-back : (w : ℕ) (b : Bool) (n : Number) (r : Command) → b ≡ minus? text → b ≡ true → n ≡ numeral 2147483648 (drop 1 text) → r ≡ back w n → r ≡ going_by w text
-  unfolding going_by
-  going-back w b n r e t f h = rw (← e, t, ← f) h
+  first-blank : ltb (blank_at text) (length text) ≡ true → position (λ b. eqb b 32) text ≡ Some (blank_at text)
+  first-blank t = rw (blank-is, t) refl
 
-  pub going-forth : (w : ℕ) (b : Bool) (n : Number) (r : Command) → b ≡ minus? text → b ≡ false → n ≡ numeral 2147483647 text → r ≡ forth w n → r ≡ going_by w text
-  unfolding going_by
-  going-forth w b n r e t f h = rw (← e, t, ← f) h
+  no-blank : ltb (blank_at text) (length text) ≡ false → position (λ b. eqb b 32) text ≡ None
+  no-blank f = rw (blank-is, f) refl
 
-  -- The root frame after the first blank.
-  module _ (at : ℕ) (e : at ≡ blank_at text) where
-    pub root-after : at < length text → numeral 4294967295 (drop (at + 1) text) ≡ root_named text
-    unfolding root_named
-    root-after l = rw (← e, lt-ltb at (length text) l) refl
+  -- In the window of root frame 0, where there is none; in the one that is named after it, if one is.
+  pub going_alone : position (λ b. eqb b 32) text ≡ None → going_by 0 text ≡ going text
+  unfolding going root_named
+  going_alone e =
+      test (ltb (blank_at text) (length text))
+      (λ t. let f = sym (first-blank t) ∙ e in cc)
+      (λ f. let a : take (blank_at text) text ≡ text = take_all _ text (ltb-false _ _ f) in rw (f, a) refl)
 
-    pub root-left-out : length text ≤ at → Is 0 ≡ root_named text
-    unfolding root_named
-    root-left-out l = rw (← e, le-ltb at (length text) l) refl
+  pub going_named : (at : ℕ) (k : Option ℕ) → position (λ b. eqb b 32) text ≡ Some at → k ≡ numeral 4294967295 (take (length text - (at + 1)) (drop (at + 1) text))
+      → numbered (λ r. going_by r (take at text)) k ≡ going text
+  unfolding going root_named
+  going_named at k e h =
+      test (ltb (blank_at text) (length text))
+      (λ t.
+      let f : Some (blank_at text) ≡ Some at = sym (first-blank t) ∙ e in
+      let a : blank_at text ≡ at = cc in
+      let l = ltb-true (blank_at text) (length text) t in
+      rw (t, a, h, to_end text (at + 1) (omega arith)) refl)
+      (λ f. let g = sym (no-blank f) ∙ e in cc)
 
-    -- In the window named, by the amount before the blank; where no number is named, nowhere.
-    pub going-in : (n : Number) (w : ℕ) (r : Command) → n ≡ root_named text → n ≡ Is w → r ≡ going_by w (take at text) → r ≡ going text
-    unfolding going
-    going-in n w r f g h = rw (← e, ← f, g) h
-
-    pub going-nowhere : (n : Number) → n ≡ root_named text → n ≡ Nothing → Command.bad ≡ going text
-    unfolding going
-    going-nowhere n f g = rw (← e, ← f, g) refl
-
-    -- The blank is at most at the end.
-    pub blank-within : at ≤ length text
-    blank-within = rw e (earliest-out _ (length text)).within
-
-module _ (line : List ℕ) (a : Bool) (e : a ≡ starts? open_word line) where
-  pub worded-open : (n : Number) (r : Command) → a ≡ true → n ≡ numeral 4294967295 (drop 5 line) → r ≡ opening n → r ≡ worded line
+module _ (line rest : List ℕ) (k : Option ℕ) where
+  pub worded_open : Found open_word line rest → k ≡ numeral 4294967295 rest → opening k ≡ worded line
   unfolding worded
-  worded-open n r t f h = rw (← e, t, ← f) h
+  worded_open h e = rw (found open_word line rest h, e, h.1) refl
 
-  module _ (x : a ≡ false) (b : Bool) (f : b ≡ starts? nav_word line) where
-    pub worded-nav : (n : Number) (r : Command) → b ≡ true → n ≡ numeral 4294967295 (drop 4 line) → r ≡ navigating n → r ≡ worded line
+  pub worded_nav : Lacks open_word line → Found nav_word line rest → k ≡ numeral 4294967295 rest → navigating k ≡ worded line
+  unfolding worded
+  worded_nav o h e = rw (lacks open_word line o, found nav_word line rest h, e, h.1) refl
+
+module _ (line : List ℕ) (o : Lacks open_word line) (n : Lacks nav_word line) where
+  pub worded_go : (rest : List ℕ) → Found go_word line rest → going rest ≡ worded line
+  unfolding worded
+  worded_go rest h = rw (lacks open_word line o, lacks nav_word line n, found go_word line rest h, h.1) refl
+
+  module _ (g : Lacks go_word line) where
+    others : other_word line ≡ worded line
     unfolding worded
-    worded-nav n r t g h = rw (← e, x, ← f, t, ← g) h
+    others = rw (lacks open_word line o, lacks nav_word line n, lacks go_word line g) refl
 
-    module _ (y : b ≡ false) (d : Bool) (g : d ≡ starts? go_word line) where
-      pub worded-go : (r : Command) → d ≡ true → r ≡ going (drop 3 line) → r ≡ worded line
-      unfolding worded
-      worded-go r t h = rw (← e, x, ← f, y, ← g, t) h
-
-      pub worded-other : (r : Command) → d ≡ false → r ≡ other_word line → r ≡ worded line
-      unfolding worded
-      worded-other r t h = rw (← e, x, ← f, y, ← g, t) h
-
-module _ (line : List ℕ) (a : Bool) (e : a ≡ starts? drop_word line) where
-  pub other-drop : (n : Number) (r : Command) → a ≡ true → n ≡ numeral 4294967295 (drop 5 line) → r ≡ dropping n → r ≡ other_word line
-  unfolding other_word
-  other-drop n r t f h = rw (← e, t, ← f) h
-
-  module _ (x : a ≡ false) (b : Bool) (g : b ≡ starts? replace_word line) where
-    pub other-replace : (n : Number) (r : Command) → b ≡ true → n ≡ numeral 4294967295 (drop 8 line) → r ≡ replacement n → r ≡ other_word line
+    pub worded_drop : (rest : List ℕ) (k : Option ℕ) → Found drop_word line rest → k ≡ numeral 4294967295 rest → dropping k ≡ worded line
     unfolding other_word
-    other-replace n r t f h = rw (← e, x, ← g, t, ← f) h
+    worded_drop rest k h e = rw (← others, found drop_word line rest h, e, h.1) refl
 
-    module _ (y : b ≡ false) (d : Bool) (h : d ≡ tab? line) where
-      pub other-tab : d ≡ true → Command.tabs ≡ other_word line
+    module _ (d : Lacks drop_word line) where
+      pub worded_replace : (rest : List ℕ) (k : Option ℕ) → Found replace_word line rest → k ≡ numeral 4294967295 rest → replacement k ≡ worded line
       unfolding other_word
-      other-tab t = rw (← e, x, ← g, y, ← h, t) refl
+      worded_replace rest k h e = rw (← others, lacks drop_word line d, found replace_word line rest h, e, h.1) refl
 
-      pub other-bad : d ≡ false → Command.bad ≡ other_word line
+      pub worded_tab : Lacks replace_word line → (b : Bool) → b ≡ pointwise eqb line tab_word → command_is (then_some b Tab) ≡ worded line
       unfolding other_word
-      other-bad t = rw (← e, x, ← g, y, ← h, t) refl
-
--- A line that is `tab`, by its length.
-module _ (line : List ℕ) where
-  pub tab-not : (length line ≡ 3 → ⊥) → false ≡ tab? line
-  unfolding tab?
-  tab-not n = rw (ne_eqb (length line) 3 n) refl
-
-  pub tab-three : (b : Bool) → length line ≡ 3 → b ≡ starts? tab_word line → b ≡ tab? line
-  unfolding tab?
-  tab-three b e h = rw (eq-eqb (length line) 3 e) h
+      worded_tab r b e =
+          rw (← others, lacks drop_word line d, lacks replace_word line r, e, tab_is line)
+          (test (tab? line) (λ t. rw t refl) (λ f. rw f refl))
 
 module _ (line : List ℕ) where
-  pub parse-long : 64 < length line → Command.bad ≡ parse line
+  pub parse_long : 64 < length line → Command.bad ≡ parse line
   unfolding parse
-  parse-long l = rw (lt-ltb 64 (length line) l) refl
+  parse_long l = rw (lt-ltb 64 (length line) l) refl
 
-  pub parse-words : (r : Command) → length line ≤ 64 → r ≡ worded line → r ≡ parse line
+  pub parse_words : length line ≤ 64 → worded line ≡ parse line
   unfolding parse
-  parse-words r l h = rw (le-ltb 64 (length line) l) h
+  parse_words l = rw (le-ltb 64 (length line) l) refl

@@ -9,9 +9,9 @@ use lib.Dec.{eqb, leb, ltb}
 use lib.ListN.{length, get_or, take, length-append, get_or-append}
 use lib.Seq.{get_or-append_seam, take-suc, take_all}
 use borrow.Author.Tests.{lt-ltb, le-leb, leb-true, eqb-false, ne_eqb, not-true}
+use Rattle.std.specs.Prelude.{Some, None}
 use Rattle.laws.proofs.Tests.{test, by-lt, below-cases, all_in}
 use Rattle.lines.specs.Decimal.{decimal, leading_zero?, digits?, decimal?, spelled, up_to, numeral}
-use Rattle.lines.specs.declared.Number.TheVariants.{Is, Nothing}
 use Rattle.lines.proofs.Numerals.{spelled-mono, digit_at}
 use Rattle.lines.proofs.Texts.{decimal-one, decimal-more}
 
@@ -85,7 +85,7 @@ decimal-leads n =
     (λ p. let f = (spells n).first p in test (ltb 1 (length (decimal n))) (λ t. rw t (ne_eqb (get_or (decimal n) 0 0) 48 (λ e. omega arith))) (λ t. rw t refl))
     (λ z. let e = decimal-one n (omega arith) in rw e refl)
 
-pub decimal-shaped : (n : ℕ) → decimal? (decimal n) ≡ true
+decimal-shaped : (n : ℕ) → decimal? (decimal n) ≡ true
 unfolding decimal?
 decimal-shaped n =
     let s = spells n in
@@ -94,7 +94,7 @@ decimal-shaped n =
     rw (ne_eqb (length (decimal n)) 0 (λ e. omega arith), decimal-leads n, d) refl
 
 -- Reading what was written.
-pub numeral-decimal : (top n : ℕ) → n ≤ top → numeral top (decimal n) ≡ Is n
+pub numeral-decimal : (top n : ℕ) → n ≤ top → numeral top (decimal n) ≡ Some n
 unfolding numeral up_to
 numeral-decimal top n l = rw (decimal-shaped n, (spells n).value, le-leb n top l) refl
 
@@ -135,21 +135,21 @@ module _ (text : List ℕ) (shape : decimal? text ≡ true) where
       take-suc text (suc j) 0 l ∙ ap (λ t. t ++ (b ∷ [])) (front j (omega arith))
       ∙ sym (decimal-more n (omega arith) ∙ ap (λ k. decimal k ++ ((48 + n % 10) ∷ [])) q ∙ ap (λ c. decimal x ++ (c ∷ [])) r)
 
-  pub shaped-decimal : text ≡ decimal (spelled text (length text))
+  shaped-decimal : text ≡ decimal (spelled text (length text))
   shaped-decimal =
       let e : suc (length text - 1) ≡ length text = let l = long in omega arith in
       let l = long in
       sym (take_all (length text) text (omega arith)) ∙ subst (λ k. take k text ≡ decimal (spelled text k)) e (front (length text - 1) (omega arith))
 
 -- What is read was written so.
-pub numeral-only : (top : ℕ) (text : List ℕ) (n : ℕ) → numeral top text ≡ Is n → (text ≡ decimal n) × (n ≤ top)
+pub numeral-only : (top : ℕ) (text : List ℕ) (n : ℕ) → numeral top text ≡ Some n → (text ≡ decimal n) × (n ≤ top)
 unfolding numeral up_to
 numeral-only top text n e =
     test (decimal? text)
     (λ d. test (leb (spelled text (length text)) top)
-    (λ t. let f : Is (spelled text (length text)) ≡ Is n = rw (d, t) at e in
+    (λ t. let f : Some (spelled text (length text)) ≡ Some n = rw (d, t) at e in
     let g : spelled text (length text) ≡ n = cc in
     let l : spelled text (length text) ≤ top = leb-true _ _ t in
     (shaped-decimal text d ∙ ap decimal g, omega arith))
-    (λ t. let f : Nothing ≡ Is n = rw (d, t) at e in let z : ◌≡◌ {A = ℕ} 0 1 = cc in absurd (omega arith)))
-    (λ d. let f : Nothing ≡ Is n = rw d at e in let z : ◌≡◌ {A = ℕ} 0 1 = cc in absurd (omega arith))
+    (λ t. let f : None ≡ Some n = rw (d, t) at e in let z : ◌≡◌ {A = ℕ} 0 1 = cc in absurd (omega arith)))
+    (λ d. let f : None ≡ Some n = rw d at e in let z : ◌≡◌ {A = ℕ} 0 1 = cc in absurd (omega arith))

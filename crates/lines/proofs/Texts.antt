@@ -1,16 +1,18 @@
 -- Writing: a decimal's digits, one text after another, and the room they take. Assumes nothing.
-use Prim.Native.Nat.{ℕ, zero, suc, ◌+◌, ◌*◌, ◌/◌, ◌%◌, ◌≤◌, ◌<◌}
-use mathlib.Core.List.{List, [], ◌∷◌, ◌++◌}
+use Prim.Native.Nat.{ℕ, zero, suc, ◌+◌, ◌-◌, ◌*◌, ◌/◌, ◌%◌, ◌≤◌, ◌<◌}
+use mathlib.Core.List.{List, [], ◌∷◌, ◌++◌, append_assoc}
 use mathlib.Core.Path.{◌≡◌, refl, sym, ap, subst, ◌∙◌}
 use native.Mathlib.Omega.{arith}
-use lib.ListN.{length, set, length-append}
+use lib.ListN.{length, take, drop, length-append}
+use lib.Seq.{drop-drop, sets-eq}
 use borrow.Author.Tests.{lt-ltb, le-ltb}
+use borrow.Rule.Slice.PartMut.{put_mid}
 use Rattle.rules.specs.Words.{put}
 use Rattle.laws.proofs.Tests.{by-lt}
 use Rattle.laws.specs.Writes.{Wrote}
 use Rattle.laws.proofs.Writes.{wrote-length, wrote_then, room-then}
 use Rattle.lines.specs.Decimal.{decimal_by, decimal}
-use Rattle.lines.specs.Reply.{end_text, status_text, tab_text, denied_text}
+use Rattle.lines.specs.Reply.{end_text, status_text, tab_text}
 
 -- DECIMALS
 
@@ -40,18 +42,20 @@ decimal-more n l = rw (le-ltb n 10 l) (ap (λ t. t ++ ((48 + n % 10) ∷ [])) (d
 pub wrote-below : (old vs mid : List ℕ) (at k : ℕ) → Wrote old at vs mid k → at + length vs < length old → k < length mid
 wrote-below old vs mid at k v l = omega (arith, wrote-length old vs mid at k v, v.past)
 
--- Two bytes.
-pub put_two : (l : List ℕ) (i a b : ℕ) → set (set l i a) (i + 1) b ≡ put l i (a ∷ b ∷ [])
+-- A text copied over a part is the text put there.
+pub put_part : (l vs part : List ℕ) (at : ℕ) → at + length vs ≤ length l → part ≡ vs → put_mid at (at + length vs - at) l part ≡ put l at vs
 unfolding put
-put_two l i a b = let e : i + 1 ≡ suc i = omega arith in rw e refl
+put_part l vs part at h e =
+    let k = length vs in
+    let f : at + (at + k - at) ≡ at + k = omega arith in
+    rw (e, drop-drop (at + k - at) at l, f) (sym (sets-eq vs l at h ∙ append_assoc (take at l) vs (drop (at + k) l)))
 
 -- A decimal as the code writes it.
-pub wrote_one : (old new : List ℕ) (at n g next : ℕ) → n < 10 → g ≡ 48 + n → Wrote old at (g ∷ []) new next → Wrote old at (decimal n) new next
-wrote_one old new at n g next l e w = rw (decimal-one n l, ← e) w
+pub wrote_one : (old new : List ℕ) (at n next : ℕ) → n < 10 → Wrote old at ((48 + n) ∷ []) new next → Wrote old at (decimal n) new next
+wrote_one old new at n next l w = rw (decimal-one n l) w
 
-pub wrote-more : (old mid new : List ℕ) (at n g k next : ℕ) → 10 ≤ n → g ≡ 48 + n % 10 → Wrote old at (decimal (n / 10)) mid k → Wrote mid k (g ∷ []) new next → Wrote old at (decimal n) new next
-wrote-more old mid new at n g k next l e v w =
-    subst (λ t. Wrote old at t new next) (ap (λ d. decimal (n / 10) ++ (d ∷ [])) e ∙ sym (decimal-more n l)) (wrote_then old mid new _ _ at k next v w)
+pub wrote-more : (old mid new : List ℕ) (at n k next : ℕ) → 10 ≤ n → Wrote old at (decimal (n / 10)) mid k → Wrote mid k ((48 + n % 10) ∷ []) new next → Wrote old at (decimal n) new next
+wrote-more old mid new at n k next l v w = subst (λ t. Wrote old at t new next) (sym (decimal-more n l)) (wrote_then old mid new _ _ at k next v w)
 
 -- The room that a decimal takes, for the code's two ways.
 module _ (at n m : ℕ) (room : at + length (decimal n) ≤ m) where
@@ -61,10 +65,11 @@ module _ (at n m : ℕ) (room : at + length (decimal n) ≤ m) where
   pub room-more : 10 ≤ n → at + length (decimal (n / 10)) < m
   room-more l = omega (arith, ap length (decimal-more n l) ∙ length-append (decimal (n / 10)) ((48 + n % 10) ∷ []))
 
--- THE END OF A LINE: three numbers with a byte before each, then the newline.
+-- The room that the first of two texts takes.
+pub room_front : (k m : ℕ) (vs ws : List ℕ) → k + length (vs ++ ws) ≤ m → k + length vs ≤ m
+room_front k m vs ws l = omega (arith, rw length-append at l)
 
-front-room : (k m : ℕ) (vs ws : List ℕ) → k + length (vs ++ ws) ≤ m → k + length vs ≤ m
-front-room k m vs ws l = omega (arith, rw length-append at l)
+-- THE END OF A LINE: three numbers with a byte before each, then the newline.
 
 module _ (old : List ℕ) (at n p s : ℕ) (room : at + length (end_text n p s) ≤ length old) where
   abbrev last : List ℕ
@@ -81,21 +86,21 @@ module _ (old : List ℕ) (at n p s : ℕ) (room : at + length (end_text n p s) 
   all = room
 
   pub room-first : at + length (32 ∷ decimal n) ≤ length old
-  room-first = front-room at (length old) (32 ∷ decimal n) second all
+  room-first = room_front at (length old) (32 ∷ decimal n) second all
 
   module _ (m1 : List ℕ) (k1 : ℕ) (w1 : Wrote old at (32 ∷ decimal n) m1 k1) where
     left1 : k1 + length second ≤ length m1
     left1 = room-then old m1 (32 ∷ decimal n) second at k1 all w1
 
     pub room-second : k1 + length (32 ∷ decimal p) ≤ length m1
-    room-second = front-room k1 (length m1) (32 ∷ decimal p) third left1
+    room-second = room_front k1 (length m1) (32 ∷ decimal p) third left1
 
     module _ (m2 : List ℕ) (k2 : ℕ) (w2 : Wrote m1 k1 (32 ∷ decimal p) m2 k2) where
       left2 : k2 + length third ≤ length m2
       left2 = room-then m1 m2 (32 ∷ decimal p) third k1 k2 left1 w2
 
       pub room-third : k2 + length (47 ∷ decimal s) ≤ length m2
-      room-third = front-room k2 (length m2) (47 ∷ decimal s) last left2
+      room-third = room_front k2 (length m2) (47 ∷ decimal s) last left2
 
       module _ (m3 : List ℕ) (k3 : ℕ) (w3 : Wrote m2 k2 (47 ∷ decimal s) m3 k3) where
         pub room-last : k3 < length m3
@@ -107,94 +112,21 @@ module _ (old : List ℕ) (at n p s : ℕ) (room : at + length (end_text n p s) 
             wrote_then old m1 m4 (32 ∷ decimal n) second at k1 k4 w1
             (wrote_then m1 m2 m4 (32 ∷ decimal p) third k1 k2 k4 w2 (wrote_then m2 m3 m4 (47 ∷ decimal s) last k2 k3 k4 w3 w4))
 
--- A STATUS LINE: two letters, then the end.
+-- THREE TEXTS, one after the other: of a new window, and of a refusal that carries a document.
 
-module _ (old : List ℕ) (at a b n p s : ℕ) (room : at + length (status_text a b n p s) ≤ length old) where
-  status-room : at + length ((a ∷ b ∷ []) ++ end_text n p s) ≤ length old
-  unfolding status_text
-  status-room = room
+module _ (old : List ℕ) (at : ℕ) (us vs ws : List ℕ) (room : at + length (us ++ (vs ++ ws)) ≤ length old) (m1 : List ℕ) (k1 : ℕ) (w1 : Wrote old at us m1 k1) where
+  left : k1 + length (vs ++ ws) ≤ length m1
+  left = room-then old m1 us (vs ++ ws) at k1 room w1
 
-  pub room-letters : at + 2 ≤ length old
-  room-letters = front-room at (length old) (a ∷ b ∷ []) (end_text n p s) status-room
+  pub room_middle : k1 + length vs ≤ length m1
+  room_middle = room_front k1 (length m1) vs ws left
 
-  module _ (m1 : List ℕ) (k1 : ℕ) (w1 : Wrote old at (a ∷ b ∷ []) m1 k1) where
-    pub room-end : k1 + length (end_text n p s) ≤ length m1
-    room-end = room-then old m1 (a ∷ b ∷ []) (end_text n p s) at k1 status-room w1
+  module _ (m2 : List ℕ) (k2 : ℕ) (w2 : Wrote m1 k1 vs m2 k2) where
+    pub room_end : k2 + length ws ≤ length m2
+    room_end = room-then m1 m2 vs ws k1 k2 left w2
 
-    pub wrote-status : (m2 : List ℕ) (k2 : ℕ) → Wrote m1 k1 (end_text n p s) m2 k2 → Wrote old at (status_text a b n p s) m2 k2
-    unfolding status_text
-    wrote-status m2 k2 w2 = wrote_then old m1 m2 (a ∷ b ∷ []) (end_text n p s) at k1 k2 w1 w2
-
--- A NEW WINDOW: `ok`, a number, then the end.
-
-module _ (old : List ℕ) (at d f p s : ℕ) (room : at + length (tab_text d f p s) ≤ length old) where
-  abbrev numbers : List ℕ
-  numbers = (32 ∷ decimal d) ++ end_text f p s
-
-  tab-room : at + length ((111 ∷ 107 ∷ []) ++ numbers) ≤ length old
-  unfolding tab_text
-  tab-room = room
-
-  pub room-ok : at + 2 ≤ length old
-  room-ok = front-room at (length old) (111 ∷ 107 ∷ []) numbers tab-room
-
-  module _ (m1 : List ℕ) (k1 : ℕ) (w1 : Wrote old at (111 ∷ 107 ∷ []) m1 k1) where
-    after-ok : k1 + length numbers ≤ length m1
-    after-ok = room-then old m1 (111 ∷ 107 ∷ []) numbers at k1 tab-room w1
-
-    pub room-document : k1 + length (32 ∷ decimal d) ≤ length m1
-    room-document = front-room k1 (length m1) (32 ∷ decimal d) (end_text f p s) after-ok
-
-    module _ (m2 : List ℕ) (k2 : ℕ) (w2 : Wrote m1 k1 (32 ∷ decimal d) m2 k2) where
-      pub room-frame : k2 + length (end_text f p s) ≤ length m2
-      room-frame = room-then m1 m2 (32 ∷ decimal d) (end_text f p s) k1 k2 after-ok w2
-
-      pub wrote-tab : (m3 : List ℕ) (k3 : ℕ) → Wrote m2 k2 (end_text f p s) m3 k3 → Wrote old at (tab_text d f p s) m3 k3
-      unfolding tab_text
-      wrote-tab m3 k3 w3 = wrote_then old m1 m3 (111 ∷ 107 ∷ []) numbers at k1 k3 w1 (wrote_then m1 m2 m3 (32 ∷ decimal d) (end_text f p s) k1 k2 k3 w2 w3)
-
--- A REFUSAL THAT CARRIES A DOCUMENT: `no`, a number, a blank, and a status line.
-
-module _ (old : List ℕ) (at k d p s : ℕ) (room : at + length (denied_text k (d ∷ []) p s) ≤ length old) where
-  abbrev status : List ℕ
-  status = status_text 97 116 d p s
-
-  abbrev blank : List ℕ
-  blank = (32 ∷ []) ++ status
-
-  abbrev number : List ℕ
-  number = (32 ∷ decimal k) ++ blank
-
-  whole : at + length ((110 ∷ 111 ∷ []) ++ number) ≤ length old
-  unfolding denied_text
-  whole = room
-
-  pub room-no : at + 2 ≤ length old
-  room-no = front-room at (length old) (110 ∷ 111 ∷ []) number whole
-
-  module _ (m1 : List ℕ) (k1 : ℕ) (w1 : Wrote old at (110 ∷ 111 ∷ []) m1 k1) where
-    after-no : k1 + length number ≤ length m1
-    after-no = room-then old m1 (110 ∷ 111 ∷ []) number at k1 whole w1
-
-    pub room-number : k1 + length (32 ∷ decimal k) ≤ length m1
-    room-number = front-room k1 (length m1) (32 ∷ decimal k) blank after-no
-
-    module _ (m2 : List ℕ) (k2 : ℕ) (w2 : Wrote m1 k1 (32 ∷ decimal k) m2 k2) where
-      after-number : k2 + length blank ≤ length m2
-      after-number = room-then m1 m2 (32 ∷ decimal k) blank k1 k2 after-no w2
-
-      pub room-blank : k2 < length m2
-      room-blank = omega (arith, front-room k2 (length m2) (32 ∷ []) status after-number)
-
-      module _ (m3 : List ℕ) (k3 : ℕ) (w3 : Wrote m2 k2 (32 ∷ []) m3 k3) where
-        pub room-status : k3 + length (status_text 97 116 d p s) ≤ length m3
-        room-status = room-then m2 m3 (32 ∷ []) status k2 k3 after-number w3
-
-        pub wrote-hidden : (m4 : List ℕ) (k4 : ℕ) → Wrote m3 k3 (status_text 97 116 d p s) m4 k4 → Wrote old at (denied_text k (d ∷ []) p s) m4 k4
-        unfolding denied_text
-        wrote-hidden m4 k4 w4 =
-            wrote_then old m1 m4 (110 ∷ 111 ∷ []) number at k1 k4 w1
-            (wrote_then m1 m2 m4 (32 ∷ decimal k) blank k1 k2 k4 w2 (wrote_then m2 m3 m4 (32 ∷ []) status k2 k3 k4 w3 w4))
+    pub wrote_three : (m3 : List ℕ) (k3 : ℕ) → Wrote m2 k2 ws m3 k3 → Wrote old at (us ++ (vs ++ ws)) m3 k3
+    wrote_three m3 k3 w3 = wrote_then old m1 m3 us (vs ++ ws) at k1 k3 w1 (wrote_then m1 m2 m3 vs ws k1 k2 k3 w2 w3)
 
 -- HOW LONG
 

@@ -8,16 +8,15 @@ use mathlib.Core.Path.{◌≡◌, refl, sym, ap, subst, ◌∙◌}
 use native.Mathlib.Omega.{arith}
 use lib.Dec.{ltb}
 use lib.IntN.{ℤ, pos, negsuc}
-use lib.ListN.{length, get_or, take, drop, length-append, get_or-append, take-append-drop, drop_of_length-le, length-take}
-use lib.Seq.{ext_get_or, get_or-take, take_all}
-use borrow.Author.Tests.{le-ltb, le-leb, leb-true, ltb-true, ltb-false, eqb-true, eq-eqb, ne_eqb}
+use lib.ListN.{length, get_or, take, drop, length-append, get_or-append}
+use lib.Seq.{take_all}
+use borrow.Author.Tests.{le-ltb, le-leb, ltb-true, ltb-false, eqb-true, eq-eqb, ne_eqb}
+use Rattle.std.specs.Prelude.{Option, Some, None}
 use Rattle.rules.specs.Below.{all_below}
-use Rattle.laws.proofs.Tests.{test, all_in, all-out}
+use Rattle.laws.proofs.Tests.{test, all_in}
 use Rattle.lines.specs.Decimal.{decimal, signed, numeral}
 use Rattle.lines.specs.Lines.{Command, Amount, InRange, open_word, nav_word, go_word, drop_word, replace_word, tab_word, starts?, tab?, minus?, numbered, forth, back, going_by, blank_at, root_named, going, other_word, worded, parse, printed, unnamed}
-use Rattle.lines.specs.declared.Number.{Number}
-use Rattle.lines.specs.declared.Number.TheVariants.{Is, Nothing}
-use Rattle.lines.proofs.Firsts.{starts-not}
+use Rattle.lines.proofs.Firsts.{starts-not, word-starts, tab-only}
 use Rattle.lines.proofs.Texts.{decimal-within}
 use Rattle.lines.proofs.Spelling.{spells, numeral-decimal, numeral-only}
 use Rattle.lines.proofs.Blanks.{signed-solid, going-solid, going-both, blank-splits}
@@ -28,16 +27,6 @@ unfolding starts?
 starts-word word rest =
     let l : length word ≤ length (word ++ rest) = omega (arith, length-append word rest) in
     simp and-eq-true_iff (le-leb _ _ l, all_in _ (length word) (λ k m. eq-eqb _ _ (get_or-append word rest 0 k m)))
-
-word-starts : (word line : List ℕ) → starts? word line ≡ true → line ≡ word ++ drop (length word) line
-unfolding starts?
-word-starts word line h =
-    let p = simp and-eq-true_iff at h in
-    let l : length word ≤ length line = leb-true _ _ p.0 in
-    let m : length (take (length word) line) ≡ length word = length-take (length word) line ∙ omega arith in
-    let e : take (length word) line ≡ word =
-    ext_get_or 0 _ _ m (λ i a. get_or-take (length word) line i 0 (omega arith) ∙ eqb-true _ _ (all-out _ (length word) p.1 i (omega arith))) in
-    sym (take-append-drop (length word) line) ∙ ap (λ t. t ++ drop (length word) line) e
 
 -- EVERY COMMAND IS READ
 
@@ -93,7 +82,7 @@ parse-printed (Command.goes r δ) l =
     let t = signed-length δ l.1 in
     let d = ten r l.0 in
     parse-go (signed δ ++ 32 ∷ decimal r) _ (omega (arith, length-append (signed δ) (32 ∷ decimal r)))
-    (going-both (signed δ) (signed-solid δ) (decimal r) (Is r) (numeral-decimal 4294967295 r l.0) ∙ going-signed r δ l.1)
+    (going-both (signed δ) (signed-solid δ) (decimal r) (Some r) (numeral-decimal 4294967295 r l.0) ∙ going-signed r δ l.1)
 parse-printed (Command.drops f) l =
     let t = ten f l in
     let o = sym (starts-not open_word (drop_word ++ decimal f) 0 (omega arith) (λ e. omega arith)) in
@@ -127,10 +116,10 @@ Good c = c ≡ Command.bad → ⊥
 
 -- A word and a number after it.
 numbered-only : (asks : ℕ → Command) (top : ℕ) (word rest : List ℕ) → ((n : ℕ) → printed (asks n) ≡ word ++ decimal n) → ((n : ℕ) → n ≤ top → InRange (asks n)) →
-    (line : List ℕ) → line ≡ word ++ rest → (k : Number) → k ≡ numeral top rest → Good (numbered asks k) → Line line (numbered asks k)
-numbered-only asks top word rest says fits line w (Is n) e g =
+    (line : List ℕ) → line ≡ word ++ rest → (k : Option ℕ) → k ≡ numeral top rest → Good (numbered asks k) → Line line (numbered asks k)
+numbered-only asks top word rest says fits line w (Some n) e g =
     let o = numeral-only _ _ n (sym e) in record { text = inl (w ∙ ap (λ t. word ++ t) o.0 ∙ sym (says n)); fits = fits n o.1 }
-numbered-only asks top word rest says fits line w Nothing e g = absurd (g refl)
+numbered-only asks top word rest says fits line w None e g = absurd (g refl)
 
 -- The lines of the commands with one number.
 opens-says : (n : ℕ) → printed (Command.opens n) ≡ open_word ++ decimal n
@@ -161,16 +150,16 @@ record By (r : ℕ) (text : List ℕ) (c : Command) : Type 0 where
   says : text ≡ signed amount
   small : Amount amount
 
-forth-by : (r : ℕ) (text : List ℕ) (k : Number) → k ≡ numeral 2147483647 text → Good (forth r k) → By r text (forth r k)
-forth-by r text (Is n) e g = let o = numeral-only _ _ n (sym e) in record { amount = pos n; asks = refl; says = o.0; small = o.1 }
-forth-by r text Nothing e g = absurd (g refl)
+forth-by : (r : ℕ) (text : List ℕ) (k : Option ℕ) → k ≡ numeral 2147483647 text → Good (forth r k) → By r text (forth r k)
+forth-by r text (Some n) e g = let o = numeral-only _ _ n (sym e) in record { amount = pos n; asks = refl; says = o.0; small = o.1 }
+forth-by r text None e g = absurd (g refl)
 
-back_by : (r : ℕ) (text : List ℕ) (k : Number) → minus? text ≡ true → k ≡ numeral 2147483648 (drop 1 text) → Good (back r k) → By r text (back r k)
-back_by r text (Is zero) m e g = absurd (g refl)
-back_by r text (Is (suc n)) m e g =
+back_by : (r : ℕ) (text : List ℕ) (k : Option ℕ) → minus? text ≡ true → k ≡ numeral 2147483648 (drop 1 text) → Good (back r k) → By r text (back r k)
+back_by r text (Some zero) m e g = absurd (g refl)
+back_by r text (Some (suc n)) m e g =
     let o = numeral-only _ _ (suc n) (sym e) in
     record { amount = negsuc n; asks = refl; says = minus-rest text m ∙ ap (λ t. 45 ∷ t) o.0; small = o.1 }
-back_by r text Nothing m e g = absurd (g refl)
+back_by r text None m e g = absurd (g refl)
 
 going-by : (r : ℕ) (text : List ℕ) → Good (going_by r text) → By r text (going_by r text)
 unfolding going_by
@@ -181,17 +170,17 @@ going-by r text g =
 
 -- With the root frame named, and left out.
 module _ (line text : List ℕ) (w : line ≡ go_word ++ text) where
-  named-only : (front rest : List ℕ) → text ≡ front ++ 32 ∷ rest → (k : Number) → k ≡ numeral 4294967295 rest
+  named-only : (front rest : List ℕ) → text ≡ front ++ 32 ∷ rest → (k : Option ℕ) → k ≡ numeral 4294967295 rest
       → Good (numbered (λ r. going_by r front) k) → Line line (numbered (λ r. going_by r front) k)
   unfolding printed
-  named-only front rest x (Is r) e g =
+  named-only front rest x (Some r) e g =
       let o = numeral-only _ _ r (sym e) in
       let b = going-by r front g in
       rw b.asks (record {
         text = inl (w ∙ ap (λ t. go_word ++ t) (x ∙ ap (λ t. t ++ 32 ∷ rest) b.says ∙ ap (λ t. signed b.amount ++ 32 ∷ t) o.0));
         fits = (o.1, b.small);
       })
-  named-only front rest x Nothing e g = absurd (g refl)
+  named-only front rest x None e g = absurd (g refl)
 
   unnamed-only : Good (going_by 0 text) → Line line (going_by 0 text)
   unnamed-only g =
@@ -205,13 +194,10 @@ module _ (line text : List ℕ) (w : line ≡ go_word ++ text) where
       (λ l. rw l (named-only (take (blank_at text) text) (drop (blank_at text + 1) text) (blank-splits text (ltb-true _ _ l)) _ refl (rw l at g)))
       (λ l. let e : take (blank_at text) text ≡ text = take_all _ text (ltb-false _ _ l) in rw (l, e) (unnamed-only (rw (l, e) at g)))
 
--- `tab`, and no more.
-tab-only : (line : List ℕ) → tab? line ≡ true → line ≡ printed Command.tabs
-unfolding tab? printed
-tab-only line t =
-    let p = simp and-eq-true_iff at t in
-    let l : length line ≡ 3 = eqb-true _ _ p.0 in
-    word-starts tab_word line p.1 ∙ ap (λ t. tab_word ++ t) (drop_of_length-le line {i = 3} (omega arith))
+-- The line of `tab`.
+tab-says : (line : List ℕ) → line ≡ tab_word → line ≡ printed Command.tabs
+unfolding printed
+tab-says line e = e
 
 other-only : (line : List ℕ) → Good (other_word line) → Line line (other_word line)
 unfolding other_word
@@ -223,7 +209,7 @@ other-only line g =
     (λ r. rw (d, r) (numbered-only Command.replaces 4294967295 replace_word (drop 8 line) replaces-says (λ n l. l) line (word-starts replace_word line r) _ refl (rw (d, r) at g)))
     (λ r.
     test (tab? line)
-    (λ t. rw (d, r, t) (record { text = inl (tab-only line t); fits = tt }))
+    (λ t. rw (d, r, t) (record { text = inl (tab-says line (tab-only line t)); fits = tt }))
     (λ t. absurd ((rw (d, r, t) at g) refl))))
 
 worded-only : (line : List ℕ) → Good (worded line) → Line line (worded line)

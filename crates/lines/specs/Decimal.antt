@@ -1,8 +1,6 @@
 -- Decimal numbers as text: "Decimal without leading zeros or plus". Bytes are ASCII: `0` is 48, `9` is 57, `-` is 45.
-use Rattle.std.specs.Prelude.{ℕ, zero, suc, ◌+◌, ◌-◌, ◌*◌, ◌/◌, ◌%◌, Bool, not, ◌&&◌, cond, List, [], ◌∷◌, ◌++◌, eqb, leb, ltb, ℤ, pos, negsuc, length, get_or}
+use Rattle.std.specs.Prelude.{ℕ, zero, suc, ◌+◌, ◌-◌, ◌*◌, ◌/◌, ◌%◌, Bool, not, ◌&&◌, cond, List, [], ◌∷◌, ◌++◌, eqb, leb, ltb, ℤ, pos, negsuc, length, get_or, Option, Some, None}
 use Rattle.rules.specs.Below.{all_below}
-use Rattle.lines.specs.declared.Number.{Number}
-use Rattle.lines.specs.declared.Number.TheVariants.{Is, Nothing}
 
 -- WRITTEN
 
@@ -44,9 +42,9 @@ spelled text zero = 0
 spelled text (suc k) = spelled text k * 10 + (get_or text k 0 - 48)
 
 -- The number, if it is at most top.
-unfoldable pub up_to : ℕ → ℕ → Number
-up_to top n = cond (leb n top) (Is n) Nothing
+unfoldable pub up_to : ℕ → ℕ → Option ℕ
+up_to top n = cond (leb n top) (Some n) None
 
 -- The number that a text spells, if it is a decimal and the number at most top.
-unfoldable pub numeral : ℕ → List ℕ → Number
-numeral top text = cond (decimal? text) (up_to top (spelled text (length text))) Nothing
+unfoldable pub numeral : ℕ → List ℕ → Option ℕ
+numeral top text = cond (decimal? text) (up_to top (spelled text (length text))) None

@@ -1,10 +1,8 @@
 -- One line of a script, without its newline: "Lines `open P`, `nav D`, `go N` [..] at most 64 bytes"; "The script gains `drop F`" (document 02, L1),
 -- "`replace D`" (L7), "`tab` [..] and `go N R` for root frame R, R being 0 when left out" (L10).
-use Rattle.std.specs.Prelude.{ℕ, zero, suc, ◌+◌, ◌≤◌, ◌<◌, Bool, ◌&&◌, cond, List, [], ◌∷◌, ◌++◌, eqb, leb, ltb, ℤ, pos, negsuc, length, get_or, take, drop}
+use Rattle.std.specs.Prelude.{ℕ, zero, suc, ◌+◌, ◌≤◌, ◌<◌, Bool, ◌&&◌, cond, List, [], ◌∷◌, ◌++◌, eqb, leb, ltb, ℤ, pos, negsuc, length, get_or, take, drop, Option, Some, None}
 use Rattle.rules.specs.Below.{all_below, earliest}
 use Rattle.lines.specs.Decimal.{numeral, decimal, signed}
-use Rattle.lines.specs.declared.Number.{Number}
-use Rattle.lines.specs.declared.Number.TheVariants.{Is, Nothing}
 use Rattle.lines.specs.declared.Command.{Command as Read}
 use Rattle.lines.specs.declared.Command.TheVariants as Reads
 
@@ -55,9 +53,9 @@ abbrev pub minus? : List ℕ → Bool
 minus? text = eqb (get_or text 0 0) 45
 
 -- What a number asks after a word; where there is none, the line is another line.
-abbrev pub numbered : (ℕ → Command) → Number → Command
-numbered asks (Is n) = asks n
-numbered asks Nothing = Command.bad
+abbrev pub numbered : (ℕ → Command) → Option ℕ → Command
+numbered asks (Some n) = asks n
+numbered asks None = Command.bad
 
 -- Back by a number in window r: "never `-0`".
 abbrev pub back_by : ℕ → ℕ → Command
@@ -65,22 +63,22 @@ back_by r zero = Command.bad
 back_by r (suc n) = Command.goes r (negsuc n)
 
 -- What a number asks after `open `, `nav `, `drop `, `replace `, `go ` and `go -`, the last two in window r.
-abbrev pub opening : Number → Command
+abbrev pub opening : Option ℕ → Command
 opening n = numbered Command.opens n
 
-abbrev pub navigating : Number → Command
+abbrev pub navigating : Option ℕ → Command
 navigating n = numbered Command.navs n
 
-abbrev pub dropping : Number → Command
+abbrev pub dropping : Option ℕ → Command
 dropping n = numbered Command.drops n
 
-abbrev pub replacement : Number → Command
+abbrev pub replacement : Option ℕ → Command
 replacement n = numbered Command.replaces n
 
-abbrev pub forth : ℕ → Number → Command
+abbrev pub forth : ℕ → Option ℕ → Command
 forth r n = numbered (λ k. Command.goes r (pos k)) n
 
-abbrev pub back : ℕ → Number → Command
+abbrev pub back : ℕ → Option ℕ → Command
 back r n = numbered (back_by r) n
 
 -- The amount that a text asks to go by in window r: "minus only after `go` [..] N fits 32 bits signed".
@@ -95,8 +93,8 @@ abbrev pub blank_at : List ℕ → ℕ
 blank_at text = earliest (blank? text) (length text)
 
 -- The root frame that a text names after its first blank: "R being 0 when left out"; it fits 32 bits unsigned.
-unfoldable pub root_named : List ℕ → Number
-root_named text = cond (ltb (blank_at text) (length text)) (numeral 4294967295 (drop (blank_at text + 1) text)) (Is 0)
+unfoldable pub root_named : List ℕ → Option ℕ
+root_named text = cond (ltb (blank_at text) (length text)) (numeral 4294967295 (drop (blank_at text + 1) text)) (Some 0)
 
 -- What a text asks after `go `.
 unfoldable pub going : List ℕ → Command
@@ -148,12 +146,12 @@ InRange (Command.replaces d) = d ≤ 4294967295
 InRange Command.tabs = Unit {0}
 InRange Command.bad = Unit {0}
 
--- What the code read, in these words.
-abbrev pub command_is : Read → Command
-command_is (Reads.Open d) = Command.opens d.0
-command_is (Reads.Nav d) = Command.navs d.0
-command_is (Reads.Go r δ) = Command.goes r.0 δ
-command_is (Reads.Drop f) = Command.drops f.0
-command_is (Reads.Replace d) = Command.replaces d.0
-command_is Reads.Tab = Command.tabs
-command_is Reads.Bad = Command.bad
+-- What the code read, in these words; where it read nothing, the line is another line.
+abbrev pub command_is : Option Read → Command
+command_is (Some (Reads.Open d)) = Command.opens d.0
+command_is (Some (Reads.Nav d)) = Command.navs d.0
+command_is (Some (Reads.Go r δ)) = Command.goes r.0 δ
+command_is (Some (Reads.Drop f)) = Command.drops f.0
+command_is (Some (Reads.Replace d)) = Command.replaces d.0
+command_is (Some Reads.Tab) = Command.tabs
+command_is None = Command.bad

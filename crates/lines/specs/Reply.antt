@@ -16,9 +16,9 @@ pub data Said : Type 0 where
 
 -- What the code answers, in these words.
 abbrev pub reply_is : Reply → Said
-reply_is (Replies.Ok v p s) = Said.ok v p s
-reply_is (Replies.Tab d f p s) = Said.tabbed d.0 f.0 p s
-reply_is (Replies.No r p s) = Said.denied (number_of r) (carried_by r) p s
+reply_is (Replies.Ok v at) = Said.ok v at.position at.steps
+reply_is (Replies.Tab d f at) = Said.tabbed d.0 f.0 at.position at.steps
+reply_is (Replies.No r at) = Said.denied (number_of r) (carried_by r) at.position at.steps
 reply_is Replies.Bad = Said.bad
 
 -- A number, position/steps, and the newline; this after two letters.

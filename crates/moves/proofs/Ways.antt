@@ -22,10 +22,9 @@ use Rattle.base.specs.declared.DocNo.{DocNo}
 use Rattle.base.specs.declared.FrameNo.{FrameNo}
 use Rattle.base.specs.declared.Refusal.TheVariants.{Full, UsedUp}
 use Rattle.sound.specs.Check.{Settles}
-use Rattle.sound.specs.declared.Check.TheVariants.{Sound, No}
+use Rattle.std.specs.Prelude.{Ok, Err}
 use Rattle.moves.specs.Answers.{opened_is, room_rungs, Appended}
 use Rattle.moves.specs.declared.Opened.{Opened}
-use Rattle.moves.specs.declared.Opened.TheVariants.{Numbers}
 
 -- FRESH
 
@@ -50,7 +49,7 @@ fresh-done words a b new c l e p q r = rw (le-ltb _ _ l, fresh-words words a b n
 -- REFUSALS 7 AND 8
 
 module _ (words : List ℕ) (c n : ℕ) (room : c ≡ capacity words) (used : n ≡ length (rows_of words)) where
-  pub room-full : c ≤ n → Settles (room_rungs words) (No Full)
+  pub room-full : c ≤ n → Settles (room_rungs words) (Err Full)
   unfolding Given
   room-full l = inl (le-leb (capacity words) (length (rows_of words)) (omega arith), refl, refl)
 
@@ -58,7 +57,7 @@ module _ (words : List ℕ) (c n : ℕ) (room : c ≡ capacity words) (used : n 
     left : full words (rows_of words) ≡ false
     left = lt-leb (capacity words) (length (rows_of words)) (omega arith)
 
-    pub no-document : d ≡ none → Settles (room_rungs words) (No UsedUp)
+    pub no-document : d ≡ none → Settles (room_rungs words) (Err UsedUp)
     unfolding Given
     no-document z = inr (left, inl (rw (eq-eqb _ _ (sym next ∙ z)) refl, refl, refl))
 
@@ -66,11 +65,11 @@ module _ (words : List ℕ) (c n : ℕ) (room : c ≡ capacity words) (used : n 
       unused : eqb (table_of words).next_doc none ≡ false
       unused = ne_eqb _ _ (λ z. some (next ∙ z))
 
-      pub no-frame : f ≡ none → Settles (room_rungs words) (No UsedUp)
+      pub no-frame : f ≡ none → Settles (room_rungs words) (Err UsedUp)
       unfolding Given
       no-frame z = inr (left, inl (rw (unused, eq-eqb _ _ (sym following ∙ z)) refl, refl, refl))
 
-      pub room-left : (f ≡ none → ⊥) → Settles (room_rungs words) Sound
+      pub room-left : (f ≡ none → ⊥) → Settles (room_rungs words) (Ok tt)
       unfolding NoneGiven
       room-left ne = (left, (rw (unused, ne_eqb _ _ (λ z. ne (following ∙ z))) refl, tt))
 
@@ -91,7 +90,7 @@ module _ (words : List ℕ) (relies : Tabs words) (parent : ℕ) where
       rw (q, p, a, b, c, w, add-one t.next_doc, add-one t.next_frame) refl
 
   pub append-done : (mid new : List ℕ) (n : ℕ) (d : DocNo) (f : FrameNo) → n ≡ length (rows_of words) → d.0 ≡ (table_of words).next_doc → f.0 ≡ (table_of words).next_frame →
-      mid ≡ put words (3 + 4 * n) (d.0 ∷ f.0 ∷ parent ∷ 1 ∷ []) → new ≡ put mid 0 ((n + 1) ∷ (d.0 + 1) ∷ (f.0 + 1) ∷ []) → Appended words parent (Numbers d f) new
+      mid ≡ put words (3 + 4 * n) (d.0 ∷ f.0 ∷ parent ∷ 1 ∷ []) → new ≡ put mid 0 ((n + 1) ∷ (d.0 + 1) ∷ (f.0 + 1) ∷ []) → Appended words parent (record { document = d; frame = f }) new
   append-done mid new n d f a b c p q = record { numbers = rw (b, c) refl; words_are = append-words mid new n d.0 f.0 a b c p q }
 
 -- THE OUTCOME
@@ -102,11 +101,11 @@ unfolding refusals NoneGiven
 open-tabs words parent h = (h.0, (h.1.0, h.1.1.1.1))
 
 pub open-given : (words : List ℕ) (parent : ℕ) → NoneGiven (refusals (Call.Open words parent)) → (r : Opened) (left : List ℕ) → Appended words parent r left →
-    outcome (Call.Open words parent) ≡ record { answer = opened_is r; lent = left ∷ [] }
+    outcome (Call.Open words parent) ≡ record { answer = opened_is (Ok r); lent = left ∷ [] }
 unfolding accepted
 open-given words parent h r left a = outcome-accepted (Call.Open words parent) h ∙ rw (a.numbers, a.words_are) refl
 
 pub tab-given : (words : List ℕ) → NoneGiven (refusals (Call.Tab words)) → (r : Opened) (left : List ℕ) → Appended words none r left →
-    outcome (Call.Tab words) ≡ record { answer = opened_is r; lent = left ∷ [] }
+    outcome (Call.Tab words) ≡ record { answer = opened_is (Ok r); lent = left ∷ [] }
 unfolding accepted tabbed
 tab-given words h r left a = outcome-accepted (Call.Tab words) h ∙ rw (a.numbers, a.words_are) refl

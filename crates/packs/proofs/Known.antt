@@ -13,7 +13,7 @@ use Rattle.rules.specs.Rows.{Row, none, doc_at, parent_at, is_doc}
 use Rattle.rules.specs.Moves.{without}
 use Rattle.rules.specs.Words.{capacity, rows_of}
 use Rattle.laws.proofs.Tests.{test, clash, off, nth}
-use Rattle.laws.proofs.Tree.{TreeOf, distinct, Alike}
+use Rattle.laws.proofs.Tree.{TreeOf, distinct}
 use Rattle.laws.proofs.Removal.{stays, stays_up}
 use Rattle.reads.specs.Within.{Within}
 use Rattle.packs.specs.Packing.{doc_kept, parent_kept, last_parent, Knows, Turn, Over}
@@ -52,20 +52,12 @@ module _ (q : ℕ → Bool) (old : List ℕ) {a b : ℕ} (tree : TreeOf (rows_of
   pub stays-later : {i d : ℕ} → StaysBefore q rows i d → StaysBefore q rows (i + 1) d
   stays-later {i} h = stays_on {j = i + 1} (omega arith) h
 
-  -- The document of a row that goes stays nowhere.
-  pub goes-nowhere : (i : ℕ) → i < length rows → keep i ≡ false → doc_at rows i ≢ none → StaysNowhere q rows (doc_at rows i)
-  goes-nowhere i l f ne = (ne, λ j m e. ap keep (distinct tree j i m l e) ∙ f)
-
   module _ (fits : length rows ≤ capacity old) (i : ℕ) (kept : Keeping) (new : List ℕ) (t : Turned q old i kept new) (l : i < length rows) where
     sees : Sees keep rows (rows_of new) i kept.rows
     sees = packed-sees keep old i kept.rows new t.packed fits l
 
     told : (j : ℕ) → j < i → doc_kept (rows_of new) kept.rows (doc_at rows j) ≡ keep j
     told = doc-told q rows tree (rows_of new) i kept.rows l sees
-
-    -- The row reads as before.
-    pub turn-row : Alike (rows_of new) i rows i
-    turn-row = sees.here
 
     -- What stays before the row is kept.
     stays-kept : (d : ℕ) → StaysBefore q rows i d → doc_kept (rows_of new) kept.rows d ≡ true

@@ -6,4 +6,5 @@ pub mod Known
 pub mod Ended
 pub mod Turns
 pub mod Starts
+pub mod Closing
 pub mod Ends

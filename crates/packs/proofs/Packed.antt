@@ -55,7 +55,7 @@ module _ (keep : ℕ → Bool) (old : List ℕ) where
       pub packed-within : Within new i × (k ≤ i)
       packed-within = (record { fits = over-fits (kept_to keep old i) old k new p fits; below = omega (arith, over-length (kept_to keep old i) old k new p) }, packed-most)
 
-      same_row : row_at (rows_of new) i ≡ row_at (rows_of old) i
+      pub same_row : row_at (rows_of new) i ≡ row_at (rows_of old) i
       same_row = over-rest (kept_to keep old i) old k new p i packed-most l
 
       -- What it sees.

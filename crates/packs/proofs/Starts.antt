@@ -1,29 +1,40 @@
--- How the loop of a removal begins: after the first row that passes, which goes, and whose parent stays. Assumes nothing.
-use Prim.Native.Nat.{ℕ, ◌+◌, ◌≤◌, ◌<◌}
-use mathlib.Core.Bool.{Bool, false}
+-- How the loop of a removal begins: before the first row that passes. Assumes nothing.
+use Prim.Native.Nat.{ℕ, ◌<◌}
+use mathlib.Core.Bool.{Bool, So}
 use mathlib.Core.List.{List}
-use mathlib.Core.Path.{◌≡◌, refl, sym, subst}
-use lib.ListN.{length}
-use Rattle.base.specs.declared.DocNo.{DocNo}
-use Rattle.rules.specs.Below.{earliest}
-use Rattle.rules.specs.Rows.{doc_at, parent_at}
-use Rattle.rules.specs.Words.{capacity, rows_of}
-use Rattle.laws.proofs.Tree.{TreeOf, proper}
+use mathlib.Core.Logic.{inl, inr, ⊎_elim}
+use mathlib.Core.Path.{refl}
+use lib.Dec.{eqb}
+use borrow.Author.Tests.{eqb-true}
+use Rattle.rules.specs.Below.{some_below}
+use Rattle.rules.specs.Rows.{Row, none, is_doc}
+use Rattle.rules.specs.Words.{rows_of}
+use Rattle.laws.proofs.Tests.{or_cases, some_out}
 use Rattle.laws.proofs.Climb.{gone-self}
-use Rattle.laws.proofs.Loops.{Earliest, earliest-out}
+use Rattle.laws.proofs.Removal.{stays}
+use Rattle.packs.specs.Packing.{doc_kept, Begins}
+use Rattle.packs.specs.declared.Keeping.{Keeping}
+use Rattle.packs.proofs.Packed.{packed-starts}
 use Rattle.packs.proofs.Stays.{early-stays}
-use Rattle.packs.proofs.Gaps.{gaps-start, gaps-more}
-use Rattle.packs.proofs.Known.{StaysNowhere, Turned, parent-stays, stays-later, goes-nowhere}
+use Rattle.packs.proofs.Known.{StaysBefore, Turned}
 
-module _ (q : ℕ → Bool) (old : List ℕ) {a b : ℕ} (tree : TreeOf (rows_of old) a b) (fits : length (rows_of old) ≤ capacity old)
-    (first : ℕ) (begins : first ≡ earliest q (length (rows_of old))) (there : first < length (rows_of old)) where
-  out : Earliest q (length (rows_of old)) first
-  out = subst (Earliest q (length (rows_of old))) (sym begins) (earliest-out q (length (rows_of old)))
+module _ (q : ℕ → Bool) (old : List ℕ) (kept : Keeping) (begins : Begins q (rows_of old) kept) where
+  abbrev rows : List Row
+  rows = rows_of old
 
-  pub turn-start : (d u : DocNo) → u.0 ≡ parent_at (rows_of old) first → d.0 ≡ doc_at (rows_of old) first → Turned q old (first + 1) (record { rows = first; found = u; missed = d }) old
-  turn-start d u up doc =
+  early : (i : ℕ) → i < kept.rows → So (stays q rows i)
+  early = early-stays q rows kept.rows begins.early
+
+  held : StaysBefore q rows kept.rows kept.found.0
+  unfolding doc_kept
+  held =
+      ⊎_elim (λ z. inl (eqb-true _ _ z)) (λ s. let o = some_out (is_doc rows kept.found.0) kept.rows s in inr (o.0, o.1, early o.0 o.1, eqb-true _ _ o.2))
+      (or_cases (eqb kept.found.0 none) (some_below kept.rows (is_doc rows kept.found.0)) begins.found-is)
+
+  pub turn-start : Turned q old kept.rows kept old
+  turn-start =
       record {
-        packed = gaps-more q old first first old (gaps-start q old first begins) tree fits there false first old (rw (out.passes there) refl) (record { next-is = refl; words_are = refl });
-        found-is = rw up (stays-later q old tree (parent-stays q old tree first there (λ j l e. early-stays q (rows_of old) first out.none_before j l)));
-        missed-is = subst (StaysNowhere q (rows_of old)) (sym doc) (goes-nowhere q old tree first there (rw (gone-self q (rows_of old) first (out.passes there)) refl) (proper tree first there));
+        packed = packed-starts (stays q rows) old kept.rows begins.few early;
+        found-is = held;
+        missed-is = (begins.missed-some, λ i l e. rw (gone-self q rows i (begins.missed-goes i l e)) refl);
       }

@@ -1,8 +1,9 @@
 -- What a turn of closing gaps asks and does, and what rows closed up and a record ended are. Definitions.
-use Rattle.std.specs.Prelude.{ℕ, ◌+◌, ◌-◌, ◌*◌, ◌≤◌, Bool, true, false, not, ◌&&◌, ◌||◌, cond, ◌≡◌, eqb, length, replicate}
+use Rattle.std.specs.Prelude.{ℕ, ◌+◌, ◌-◌, ◌*◌, ◌≤◌, ◌<◌, ◌≢◌, Bool, true, false, not, ◌&&◌, ◌||◌, cond, ◌≡◌, eqb, length, replicate}
+use Rattle.std.proofs.Math.Bool.{So}
 use mathlib.Core.List.{List, [], ◌∷◌, flat_map}
 use Rattle.rules.specs.Below.{some_below}
-use Rattle.rules.specs.Rows.{Row, none, row_at, parent_at, is_doc}
+use Rattle.rules.specs.Rows.{Row, none, row_at, doc_at, parent_at, is_doc}
 use Rattle.rules.specs.Words.{put, rows_of, words_of_row}
 use Rattle.packs.specs.declared.Keeping.{Keeping}
 
@@ -37,6 +38,15 @@ pub record Turn (passes : Bool) (old : List ℕ) (i : ℕ) (kept next : Keeping)
   pub found-is : next.found.0 ≡ cond (not passes && (not (eqb (parent_at (rows_of old) i) (last_parent (rows_of old) kept.rows kept.found.0)) && parent_kept (rows_of old) kept.rows i))
       (last_parent (rows_of old) kept.rows kept.found.0) kept.found.0
   pub missed-is : next.missed.0 ≡ cond (passes || parent_kept (rows_of old) kept.rows i) kept.missed.0 (parent_at (rows_of old) i)
+
+-- What closing the gaps begins with, where rows that pass go with all beneath them: before the first row that passes, it knows of one document that those rows hold it, or that it is none, and of
+-- another that no row that stays holds it.
+pub record Begins (q : ℕ → Bool) (rows : List Row) (kept : Keeping) : Type 0 where
+  pub few : kept.rows ≤ length rows
+  pub early : (i : ℕ) → i < kept.rows → q i ≡ false
+  pub found-is : doc_kept rows kept.rows kept.found.0 ≡ true
+  pub missed-some : kept.missed.0 ≢ none
+  pub missed-goes : (i : ℕ) → i < length rows → doc_at rows i ≡ kept.missed.0 → So (q i)
 
 -- The k rows put over the first ones of a record; every other word stays.
 pub record Over (rs : List Row) (old : List ℕ) (k : ℕ) (new : List ℕ) : Type 0 where

@@ -1,13 +1,15 @@
 // Closing gaps in place: rows that stay are moved down over those that go, and the record ends after the last of them. What every removal has in common.
 #![tactic(auto)]
 
-ghost use Rattle.std.specs.Prelude.{◌≢◌, ◌≡◌, true, false, ◌+◌, ◌-◌, ◌*◌, ◌<◌, ◌≤◌, length, replicate};
+ghost use Rattle.std.specs.Prelude.{◌≢◌, ◌≡◌, Bool, true, false, ◌+◌, ◌-◌, ◌*◌, ◌<◌, ◌≤◌, eqb, length, replicate};
 ghost use Rattle.std.proofs.Math.Bool.{So};
 ghost use Rattle.rules.specs.Below.{some_below};
-ghost use Rattle.rules.specs.Rows.{doc_at, parent_at, is_doc};
-ghost use Rattle.rules.specs.Words.{put, rows_of};
+ghost use Rattle.rules.specs.Rows.{Row, none, row_at, doc_at, parent_at, is_doc};
+ghost use Rattle.rules.specs.Moves.{without};
+ghost use Rattle.rules.specs.Words.{put, table_of, rows_of};
+ghost use Rattle.rules.specs.Sound.{Sound};
 ghost use Rattle.reads.specs.Within.{Before, Within};
-ghost use Rattle.packs.specs.Packing.{doc_kept, parent_kept, last_parent, Moved, Knows, Turn, ended};
+ghost use Rattle.packs.specs.Packing.{doc_kept, parent_kept, last_parent, Moved, Knows, Turn, Begins, Over, ended};
 
 use base::{DocNo, FrameNo, RowPlace};
 
@@ -98,6 +100,49 @@ pub fn turn(words: &mut [u32], at: RowPlace, passes: bool, kept: Keeping) -> Kee
     }
     let rows = keep_row(words, at, kept.rows, true);
     Keeping { rows, ..kept }
+}
+
+// What a removal empties: the rows right in it go, and all beneath each.
+pub trait Emptied {
+    // Whether a row is right in it.
+    ghost has: { Self → Row → Bool };
+
+    // The same, of the row at a place.
+    fn has(self, words: &[u32], at: RowPlace) -> bool
+        requires { Within words.now at.0 }
+        ensures { result ≡ has self (row_at (rows_of words.now) at.0) };
+}
+
+// In a frame are its rows.
+impl Emptied for FrameNo {
+    ghost has = { λ f r. eqb r.frame f.0 };
+
+    fn has(self, words: &[u32], at: RowPlace) -> bool {
+        reads::frame(words, at) == self
+    }
+}
+
+// In a document are the rows that have it for their parent.
+impl Emptied for DocNo {
+    ghost has = { λ d r. eqb r.parent d.0 };
+
+    fn has(self, words: &[u32], at: RowPlace) -> bool {
+        reads::parent(words, at) == self
+    }
+}
+
+// Removes the rows that are right in something, with all beneath each, and closes the gaps. How many rows stay.
+pub fn close_gaps<E: Emptied + Copy>(words: &mut [u32], emptied: E, start: Keeping) -> usize
+    requires { Sound words.old × ((table_of words.old).next_doc ≤ none) × Begins (λ i. E.has emptied (row_at (rows_of words.old) i)) (rows_of words.old) start }
+    ensures { Over (without (λ i. E.has emptied (row_at (rows_of words.old) i)) (rows_of words.old)) words.old result words.new }
+{
+    let n = rows::row_count(words);
+    let mut kept = start;
+    for i in start.rows..n {
+        let passes = emptied.has(words, RowPlace(i));
+        kept = turn(words, RowPlace(i), passes, kept);
+    }
+    kept.rows
 }
 
 // The row that holds a document, where one of the first k rows does.

@@ -4,6 +4,7 @@ use mathlib.Core.Bool.{Bool, true, false, So}
 use mathlib.Core.List.{List, [], ◌∷◌}
 use mathlib.Core.Logic.{inl, inr}
 use mathlib.Core.Path.{◌≡◌, refl, sym, ap, subst, ◌∙◌}
+use Rattle.std.specs.Prelude.{Result, Ok, Err}
 use native.Mathlib.Omega.{arith}
 use lib.Ieee.{Float}
 use borrow.Author.Tests.{le-leb, lt-leb, not-false}
@@ -18,16 +19,10 @@ use Rattle.laws.proofs.Calls.{given-more, given-after, none_more, outcome-accept
 use Rattle.laws.proofs.Stores.{freed-entries}
 use Rattle.laws.proofs.Tests.{test}
 use Rattle.sound.specs.Check.{check_of, Examined, Settles, Judged}
-use Rattle.sound.specs.declared.Check.{Check}
-use Rattle.sound.specs.declared.Check.TheVariants.{Sound, No}
 use Rattle.sound.proofs.Checks.{check-given, settles-past, examined-past}
 use Rattle.points.specs.Points.{place_given}
 use Rattle.points.specs.declared.Place.{Place as Given-as-Place}
 use Rattle.places.specs.Answers.{placed_is, zoomed_is, Goes}
-use Rattle.places.specs.declared.Placed.{Placed}
-use Rattle.places.specs.declared.Placed.TheVariants.{Stands, Refused}
-use Rattle.places.specs.declared.Spot.{Spot}
-use Rattle.places.specs.declared.Spot.TheVariants as Spots
 
 module _ (words places : List ℕ) (d : ℕ) where
   -- What asking for a place is refused by, which the other two calls add to.
@@ -35,33 +30,33 @@ module _ (words places : List ℕ) (d : ℕ) where
   ask = Call.AskPlace words places d
 
   -- REFUSALS 1 AND 2
-  pub judged-short : (k : Check) (r : Refusal) → k ≡ check_of words → k ≡ No r → Judged ask (No r)
+  pub judged-short : (k : Result (Unit {0}) Refusal) (r : Refusal) → k ≡ check_of words → k ≡ Err r → Judged ask (Err r)
   unfolding refusals
   judged-short k r e f = check-given words _ k r e f
 
   -- REFUSALS 15 AND 4, the record being sound.
   module _ (e : Examined words) (b : Bool) (f : b ≡ fine? places) where
-    pub judged-bad : b ≡ false → Judged ask (No BadPlaces)
+    pub judged-bad : b ≡ false → Judged ask (Err BadPlaces)
     unfolding refusals Given
-    judged-bad t = examined-past words e (15 when bad_places places ∷ 4 when absent words d ∷ []) (No BadPlaces) (inl (rw (sym f ∙ t) refl, refl, refl))
+    judged-bad t = examined-past words e (15 when bad_places places ∷ 4 when absent words d ∷ []) (Err BadPlaces) (inl (rw (sym f ∙ t) refl, refl, refl))
 
     module _ (t : b ≡ true) (p : Bool) (g : p ≡ in_record (rows_of words) d) where
       -- It is left to the last line.
-      last_line : (k : Check) → Settles (4 when absent words d ∷ []) k → Judged ask k
+      last_line : (k : Result (Unit {0}) Refusal) → Settles (4 when absent words d ∷ []) k → Judged ask k
       unfolding refusals
       last_line k h =
           examined-past words e (15 when bad_places places ∷ 4 when absent words d ∷ []) k (settles-past (15 when bad_places places) (4 when absent words d ∷ []) (rw (sym f ∙ t) refl) k h)
 
-      pub judged-absent : p ≡ false → Judged ask (No Absent)
+      pub judged-absent : p ≡ false → Judged ask (Err Absent)
       unfolding Given
-      judged-absent u = last_line (No Absent) (inl (rw (sym g ∙ u) refl, refl, refl))
+      judged-absent u = last_line (Err Absent) (inl (rw (sym g ∙ u) refl, refl, refl))
 
-      pub judged-there : p ≡ true → Judged ask Sound
+      pub judged-there : p ≡ true → Judged ask (Ok tt)
       unfolding NoneGiven
-      judged-there u = last_line Sound (rw (sym g ∙ u) refl, tt)
+      judged-there u = last_line (Ok tt) (rw (sym g ∙ u) refl, tt)
 
   -- What a judge's word is worth to the other two.
-  module _ (k : Check) (j : Judged ask k) (r : Refusal) (e : k ≡ No r) where
+  module _ (k : Result (Unit {0}) Refusal) (j : Judged ask k) (r : Refusal) (e : k ≡ Err r) where
     given : Given (number_of r) (carried_by r) (refusals ask)
     given = subst (Judged ask) e j
 
@@ -69,7 +64,7 @@ module _ (words places : List ℕ) (d : ℕ) where
     unfolding refusals
     zoom-refused zoom = outcome-refused (Call.AskAtZoom words places d zoom) (number_of r) (carried_by r) (given-more (number_of r) (carried_by r) (refusals ask) _ given)
 
-    pub goes-refused : (place : Given-as-Place) → Goes words places d place (Spots.No r)
+    pub goes-refused : (place : Given-as-Place) → Goes words places d place (Err r)
     unfolding refusals
     goes-refused place = given-more (number_of r) (carried_by r) (refusals ask) _ given
 
@@ -88,12 +83,12 @@ module _ (words places : List ℕ) (d : ℕ) where
     told-there = not-false _ h.1.1.1.0
 
     -- The place.
-    pub place-told : (p : Given-as-Place) → place_given p ≡ place_of places d → outcome ask ≡ record { answer = placed_is (Stands p); lent = [] }
+    pub place-told : (p : Given-as-Place) → place_given p ≡ place_of places d → outcome ask ≡ record { answer = placed_is (Ok p); lent = [] }
     unfolding accepted
     place-told p e = outcome-accepted ask h ∙ rw e refl
 
     -- The place at a zoom.
-    pub zoom-told : (zoom : Float) (p : Given-as-Place) (r : Placed) → place_given p ≡ place_of places d → placed_is r ≡ zoomed_is zoom (place_given p) →
+    pub zoom-told : (zoom : Float) (p : Given-as-Place) (r : Result Given-as-Place Refusal) → place_given p ≡ place_of places d → placed_is r ≡ zoomed_is zoom (place_given p) →
         outcome (Call.AskAtZoom words places d zoom) ≡ record { answer = placed_is r; lent = [] }
     unfolding refusals accepted Given NoneGiven zoomed_is
     zoom-told zoom p r e f =
@@ -108,18 +103,18 @@ module _ (words places : List ℕ) (d : ℕ) where
       abbrev more : List Rung
       more = 11 when not_finite (place_given place) ∷ 12 when no_entry words places d ∷ []
 
-      pub goes-not : b ≡ false → Goes words places d place (Spots.No NotFinite)
+      pub goes-not : b ≡ false → Goes words places d place (Err NotFinite)
       unfolding refusals Given
       goes-not f = given-after 11 [] (refusals ask) more h (inl (rw (sym e ∙ f) refl, refl, refl))
 
       module _ (t : b ≡ true) (i n : ℕ) (g : i ≡ spot (freed (rows_of words) places) d) (c : n ≡ entries places) where
-        pub goes-full : n ≤ i → Goes words places d place (Spots.No NoEntry)
+        pub goes-full : n ≤ i → Goes words places d place (Err NoEntry)
         unfolding refusals Given
         goes-full l =
             given-after 12 [] (refusals ask) more h
             (inr (rw (sym e ∙ t) refl, inl (le-leb (entries (freed (rows_of words) places)) _ (omega (arith, freed-entries (rows_of words) places)), refl, refl)))
 
-        pub goes-there : i < n → Goes words places d place (Spots.At i)
+        pub goes-there : i < n → Goes words places d place (Ok i)
         unfolding refusals NoneGiven
         goes-there l = (
           none_more (refusals ask) more h (rw (sym e ∙ t) refl, (lt-leb (entries (freed (rows_of words) places)) _ (omega (arith, freed-entries (rows_of words) places)), tt)),
@@ -129,29 +124,29 @@ module _ (words places : List ℕ) (d : ℕ) where
 
 -- What is said of a place at a zoom.
 module _ (place : Given-as-Place) (zoom : Float) (b : Bool) (e : b ≡ finite zoom) where
-  pub zoomed-not : b ≡ false → placed_is (Refused NotFinite) ≡ zoomed_is zoom (place_given place)
+  pub zoomed-not : b ≡ false → placed_is (Err NotFinite) ≡ zoomed_is zoom (place_given place)
   unfolding zoomed_is
   zoomed-not f = rw (sym e ∙ f) refl
 
   module _ (t : b ≡ true) (s : Given-as-Place) (is : place_given s ≡ scaled zoom (place_given place)) (p : Bool) (g : p ≡ finite_place (place_given s)) where
-    pub zoomed-over : p ≡ false → placed_is (Refused NotFinite) ≡ zoomed_is zoom (place_given place)
+    pub zoomed-over : p ≡ false → placed_is (Err NotFinite) ≡ zoomed_is zoom (place_given place)
     unfolding zoomed_is
     zoomed-over f = rw (sym e ∙ t, ap finite_place (sym is) ∙ sym g ∙ f) refl
 
-    pub zoomed-stands : p ≡ true → placed_is (Stands s) ≡ zoomed_is zoom (place_given place)
+    pub zoomed-stands : p ≡ true → placed_is (Ok s) ≡ zoomed_is zoom (place_given place)
     unfolding zoomed_is
     zoomed-stands f = rw (sym e ∙ t, ap finite_place (sym is) ∙ sym g ∙ f, is) refl
 
 -- A setting.
-module _ (words places : List ℕ) (d : ℕ) (place : Given-as-Place) (s : Spot) (j : Goes words places d place s) where
+module _ (words places : List ℕ) (d : ℕ) (place : Given-as-Place) (s : Result ℕ Refusal) (j : Goes words places d place s) where
   abbrev set : Call
   set = Call.SetPlace words places d (place_given place)
 
-  pub set-refused : (r : Refusal) → s ≡ Spots.No r → outcome set ≡ record { answer = Answer.refuses (number_of r) (carried_by r); lent = places ∷ [] }
+  pub set-refused : (r : Refusal) → s ≡ Err r → outcome set ≡ record { answer = Answer.refuses (number_of r) (carried_by r); lent = places ∷ [] }
   set-refused r e = outcome-refused set (number_of r) (carried_by r) (subst (Goes words places d place) e j)
 
-  module _ (i : ℕ) (e : s ≡ Spots.At i) where
-    told : Goes words places d place (Spots.At i)
+  module _ (i : ℕ) (e : s ≡ Ok i) where
+    told : Goes words places d place (Ok i)
     told = subst (Goes words places d place) e j
 
     pub set-examined : Examined words

@@ -1,6 +1,6 @@
 -- Documents of a sound record. Assumes nothing.
 use Prim.Native.Nat.{ℕ, ◌≤◌, ◌<◌}
-use mathlib.Core.Bool.{true, false, So}
+use mathlib.Core.Bool.{false, So}
 use mathlib.Core.List.{List}
 use mathlib.Core.Path.{◌≡◌, sym, ap, ◌∙◌}
 use native.Mathlib.Omega.{arith}
@@ -17,9 +17,9 @@ use Rattle.laws.proofs.Tests.{off}
 use Rattle.laws.proofs.Stores.{document-below, none-absent}
 use Rattle.laws.proofs.Words.{next-doc-in}
 use Rattle.reads.specs.Found.{found_below}
-use Rattle.reads.specs.declared.Found.{Found}
-use Rattle.reads.specs.declared.Found.TheVariants.{At, Nothing}
-use Rattle.reads.proofs.Scans.{some-found, none_found}
+use Rattle.std.specs.Prelude.{Option}
+use Rattle.std.specs.Option.{is_some}
+use Rattle.reads.proofs.Scans.{found-told}
 use Rattle.rows.specs.Readable.{readable_rows}
 use Rattle.rows.proofs.Readable.{readable-rows}
 use Rattle.sound.specs.Check.{Examined}
@@ -44,16 +44,13 @@ module _ (words : List ℕ) (e : Examined words) (word : Fits w32 (get_or words 
   pub high-absent : (top d w : ℕ) → top ≡ (table_of words).next_doc → w ≡ top → w ≤ d → false ≡ in_record (rows_of words) d
   high-absent top d w t same l = sym (off (in_record (rows_of words) d) (λ s. omega (arith, below d s)))
 
-module _ (words : List ℕ) (e : Examined words) (d : ℕ) (f : Found) (scan : f ≡ found_below (is_doc (readable_rows words) d) (length (readable_rows words))) where
+module _ (words : List ℕ) (e : Examined words) (d : ℕ) (f : Option RowPlace) (scan : f ≡ found_below (is_doc (readable_rows words) d) (length (readable_rows words))) where
   there : some_below (length (readable_rows words)) (is_doc (readable_rows words) d) ≡ in_record (rows_of words) d
   unfolding in_record
   there = ap (λ rows. some_below (length rows) (is_doc rows d)) (readable-rows words (examined-fits words e))
 
-  pub found-present : (q : RowPlace) → f ≡ At q → true ≡ in_record (rows_of words) d
-  found-present q g = some-found (is_doc (readable_rows words) d) (length (readable_rows words)) f q scan g ∙ there
-
-  pub lost-absent : f ≡ Nothing → false ≡ in_record (rows_of words) d
-  lost-absent g = none_found (is_doc (readable_rows words) d) (length (readable_rows words)) f scan g ∙ there
+  pub found-present : is_some f ≡ in_record (rows_of words) d
+  found-present = found-told (is_doc (readable_rows words) d) (length (readable_rows words)) f scan ∙ there
 
 -- A document that is asked for, if none of the refusals is given: the store passes, and the document has an entry's number.
 pub asked-for : (words places : List ℕ) (d : ℕ) → Fits w32 (get_or words 1 0) → NoneGiven (refusals (Call.AskPlace words places d)) → So (fine? places) × (d < none)

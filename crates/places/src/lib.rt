@@ -5,7 +5,7 @@
 // always enough.
 #![tactic(auto)]
 
-ghost use Rattle.std.specs.Prelude.{◌≡◌, true, [], ◌∷◌, ◌+◌, ◌*◌, ◌≤◌, ◌<◌, get_or};
+ghost use Rattle.std.specs.Prelude.{Ok, ◌≡◌, true, [], ◌∷◌, ◌+◌, ◌*◌, ◌≤◌, ◌<◌, get_or};
 ghost use Rattle.std.proofs.Math.Bool.{So};
 ghost use Rattle.rules.specs.Below.{earliest};
 ghost use Rattle.rules.specs.Rows.{none, in_record};
@@ -19,21 +19,21 @@ ghost use Rattle.places.specs.Store.{Reaches};
 
 use base::{DocNo, Refusal};
 use points::{Place, Point};
-use reads::Found;
-use sound::Check;
 
 // The document word of an entry: the number of a document, or any other of 64 bits.
-#[derive(Clone, Copy)]
+#[derive(Clone, Copy, PartialEq, Eq, PartialOrd, Ord)]
 struct Owner(u64);
 
 // An entry of this one is free.
 const FREE: u64 = 4294967295;
 
 // A document as an entry has it.
-fn owned_by(d: DocNo) -> Owner
-    ensures { result.0 ≡ d.0 }
-{
-    Owner(d.0 as u64)
+impl From<DocNo> for Owner {
+    ghost from_gives = { λ d owner. owner.0 ≡ d.0 };
+
+    fn from(d: DocNo) -> Owner {
+        Owner(u64::from(d.0))
+    }
 }
 
 // How many entries a store has.
@@ -73,12 +73,10 @@ fn entry_below(places: &[u64], n: usize, d: Owner) -> usize
     requires { n ≤ entries places.now }
     ensures { result ≡ earliest (is_of places.now d.0) n }
 {
-    let mut i = 0;
-    while i < n {
+    for i in 0..n {
         if is_of(places, i, d) {
             return i;
         }
-        i += 1;
     }
     n
 }
@@ -136,13 +134,11 @@ fn are_fine(places: &[u64]) -> bool
 {
     let n = entry_count(places);
     let mut high = Owner(0);
-    let mut i = 0;
-    while i < n {
+    for i in 0..n {
         if !is_fine(places, i, high) {
             return false;
         }
         high = higher(places, i, high);
-        i += 1;
     }
     true
 }
@@ -166,7 +162,7 @@ fn place_of(places: &[u64], d: DocNo) -> Place
     ensures { place_given result ≡ place_of places.now d.0 }
 {
     let n = entry_count(places);
-    let i = entry_below(places, n, owned_by(d));
+    let i = entry_below(places, n, Owner::from(d));
     if i < n {
         return read_place(places, i);
     }
@@ -178,79 +174,63 @@ fn in_record(words: &[u32], d: Owner) -> bool
     requires { Examined words.now }
     ensures { result ≡ in_record (rows_of words.now) d.0 }
 {
-    let top = owned_by(rows::next_document(words));
-    if top.0 <= d.0 {
+    let top = Owner::from(rows::next_document(words));
+    if top <= d {
         return false;
     }
-    match rows::find(words, DocNo(d.0 as u32)) {
-        Found::At(_) => true,
-        Found::Nothing => false,
-    }
+    rows::find(words, DocNo(d.0 as u32)).is_some()
 }
 
 // Refusals 15 and 4 of a sound record.
-fn judge_sound(words: &[u32], places: &[u64], d: DocNo) -> Check
+fn judge_sound(words: &[u32], places: &[u64], d: DocNo) -> Result<(), Refusal>
     requires { Examined words.now }
     ensures { Judged (Call.AskPlace words.now places.now d.0) result }
 {
     if !are_fine(places) {
-        return Check::No(Refusal::BadPlaces);
+        return Err(Refusal::BadPlaces);
     }
-    if !in_record(words, owned_by(d)) {
-        return Check::No(Refusal::Absent);
+    if !in_record(words, Owner::from(d)) {
+        return Err(Refusal::Absent);
     }
-    Check::Sound
+    Ok(())
 }
 
 // Refusals 1, 2, 15 and 4, which all three calls begin with.
-fn judge(words: &[u32], places: &[u64], d: DocNo) -> Check
+fn judge(words: &[u32], places: &[u64], d: DocNo) -> Result<(), Refusal>
     ensures { Judged (Call.AskPlace words.now places.now d.0) result }
 {
-    match sound::examine(words) {
-        Check::No(r) => Check::No(r),
-        Check::Sound => judge_sound(words, places, d),
-    }
-}
-
-// A document's place, or why it is not told.
-#[derive(Clone, Copy)]
-pub enum Placed {
-    Stands(Place),
-    Refused(Refusal),
+    sound::examine(words)?;
+    judge_sound(words, places, d)
 }
 
 // A document's place.
-pub fn place(words: &[u32], places: &[u64], d: DocNo) -> Placed
+pub fn place(words: &[u32], places: &[u64], d: DocNo) -> Result<Place, Refusal>
     ensures { outcome (Call.AskPlace words.now places.now d.0) ≡ record { answer = placed_is result; lent = [] } }
 {
-    match judge(words, places, d) {
-        Check::No(r) => Placed::Refused(r),
-        Check::Sound => Placed::Stands(place_of(places, d)),
-    }
+    judge(words, places, d)?;
+    Ok(place_of(places, d))
 }
 
 // A place at a zoom, if the zoom and the products are finite.
-fn zoomed(place: Place, zoom: f64) -> Placed
+fn zoomed(place: Place, zoom: f64) -> Result<Place, Refusal>
     ensures { placed_is result ≡ zoomed_is zoom (place_given place) }
 {
     if !points::is_finite(zoom) {
-        return Placed::Refused(Refusal::NotFinite);
+        return Err(Refusal::NotFinite);
     }
     let scaled = points::scale(place, zoom);
     if !points::is_finite_place(scaled) {
-        return Placed::Refused(Refusal::NotFinite);
+        return Err(Refusal::NotFinite);
     }
-    Placed::Stands(scaled)
+    Ok(scaled)
 }
 
 // A document's place at a page zoom.
-pub fn place_at_zoom(words: &[u32], places: &[u64], d: DocNo, zoom: f64) -> Placed
+pub fn place_at_zoom(words: &[u32], places: &[u64], d: DocNo, zoom: f64) -> Result<Place, Refusal>
     ensures { outcome (Call.AskAtZoom words.now places.now d.0 zoom) ≡ record { answer = placed_is result; lent = [] } }
 {
-    match judge(words, places, d) {
-        Check::No(r) => Placed::Refused(r),
-        Check::Sound => zoomed(place_of(places, d), zoom),
-    }
+    judge(words, places, d)?;
+    zoomed(place_of(places, d), zoom)
 }
 
 // Whether an entry is free once the entries of gone documents are.
@@ -267,12 +247,10 @@ fn first_gone(words: &[u32], places: &[u64]) -> usize
     ensures { result ≡ earliest (gone_in (rows_of words.now) places.now) (entries places.now) }
 {
     let n = entry_count(places);
-    let mut i = 0;
-    while i < n {
+    for i in 0..n {
         if is_gone(words, places, i) {
             return i;
         }
-        i += 1;
     }
     n
 }
@@ -283,43 +261,34 @@ fn spot_of(words: &[u32], places: &[u64], d: DocNo) -> usize
     ensures { result ≡ spot (freed (rows_of words.now) places.now) d.0 }
 {
     let n = entry_count(places);
-    let own = entry_below(places, n, owned_by(d));
+    let own = entry_below(places, n, Owner::from(d));
     if own < n {
         return own;
     }
     first_gone(words, places)
 }
 
-// Which entry a place goes to, or why to none.
-#[derive(Clone, Copy)]
-enum Spot {
-    At(usize),
-    No(Refusal),
-}
-
 // Refusals 11 and 12, and the entry.
-fn judge_place(words: &[u32], places: &[u64], d: DocNo, place: Place) -> Spot
-    requires { Judged (Call.AskPlace words.now places.now d.0) Check.Sound }
+fn judge_place(words: &[u32], places: &[u64], d: DocNo, place: Place) -> Result<usize, Refusal>
+    requires { Judged (Call.AskPlace words.now places.now d.0) (Ok tt) }
     ensures { Goes words.now places.now d.0 place result }
 {
     if !points::is_finite_place(place) {
-        return Spot::No(Refusal::NotFinite);
+        return Err(Refusal::NotFinite);
     }
     let i = spot_of(words, places, d);
     if entry_count(places) <= i {
-        return Spot::No(Refusal::NoEntry);
+        return Err(Refusal::NoEntry);
     }
-    Spot::At(i)
+    Ok(i)
 }
 
 // All refusals of a setting, and the entry.
-fn judge_setting(words: &[u32], places: &[u64], d: DocNo, place: Place) -> Spot
+fn judge_setting(words: &[u32], places: &[u64], d: DocNo, place: Place) -> Result<usize, Refusal>
     ensures { Goes words.now places.now d.0 place result }
 {
-    match judge(words, places, d) {
-        Check::No(r) => Spot::No(r),
-        Check::Sound => judge_place(words, places, d, place),
-    }
+    judge(words, places, d)?;
+    judge_place(words, places, d, place)
 }
 
 // Frees an entry whose document is gone.
@@ -338,10 +307,8 @@ fn free_gone(words: &[u32], places: &mut [u64])
     ensures { places.new ≡ freed (rows_of words.now) places.old }
 {
     let n = entry_count(places);
-    let mut i = 0;
-    while i < n {
+    for i in 0..n {
         free_at(words, places, i);
-        i += 1;
     }
 }
 
@@ -351,13 +318,12 @@ fn put_place(places: &mut [u64], i: usize, d: DocNo, place: Place)
     ensures { places.new ≡ put places.old (4 * i) (d.0 ∷ place_words (place_given place)) }
 {
     let k = 4 * i;
+    places[k] = Owner::from(d).0;
     match place {
         Place::Itself => {
-            places[k] = owned_by(d).0;
             places[k + KIND] = 0;
         }
         Place::At(p) => {
-            places[k] = owned_by(d).0;
             places[k + KIND] = 1;
             places[k + X] = points::bits_of(p.x);
             places[k + Y] = points::bits_of(p.y);
@@ -365,23 +331,12 @@ fn put_place(places: &mut [u64], i: usize, d: DocNo, place: Place)
     }
 }
 
-// Whether a place was set, or why not.
-#[derive(Clone, Copy)]
-pub enum Setting {
-    Done,
-    Refused(Refusal),
-}
-
 // Sets a document's place.
-pub fn set_place(words: &[u32], places: &mut [u64], d: DocNo, place: Place) -> Setting
+pub fn set_place(words: &[u32], places: &mut [u64], d: DocNo, place: Place) -> Result<(), Refusal>
     ensures { outcome (Call.SetPlace words.now places.old d.0 (place_given place)) ≡ record { answer = setting_is result; lent = places.new ∷ [] } }
 {
-    match judge_setting(words, places, d, place) {
-        Spot::No(r) => Setting::Refused(r),
-        Spot::At(i) => {
-            free_gone(words, places);
-            put_place(places, i, d, place);
-            Setting::Done
-        }
-    }
+    let i = judge_setting(words, places, d, place)?;
+    free_gone(words, places);
+    put_place(places, i, d, place);
+    Ok(())
 }

@@ -7,12 +7,12 @@ ghost use Rattle.std.specs.Float.Ieee.{of_bits, to_bits};
 ghost use Rattle.rules.specs.Places.{finite, finite_place, scaled};
 ghost use Rattle.points.specs.Points.{place_given};
 
-// Whether a double is neither NaN nor infinite: a NaN is neither above nor below anything.
+// Whether a double is neither NaN nor infinite.
+#[tactic(auto, using(crate::proofs::Points::finite_is))]
 pub fn is_finite(x: f64) -> bool
     ensures { result ≡ finite x }
 {
-    let infinity = 1.0 / 0.0;
-    (-infinity < x) & (x < infinity)
+    x.is_finite()
 }
 
 // Whether bits are those of a finite double: without the sign they lie below those of the infinity.
@@ -35,7 +35,7 @@ pub fn bits_of(x: f64) -> u64
     requires { finite x ≡ true }
     ensures { result ≡ to_bits binary64 x }
 {
-    f64::to_bits(x)
+    x.to_bits()
 }
 
 // A point in CSS pixels.
@@ -54,12 +54,13 @@ pub enum Place {
 }
 
 // Whether no coordinate of a place is NaN or infinite.
+#[tactic(auto, using(crate::proofs::Points::finite_is))]
 pub fn is_finite_place(place: Place) -> bool
     ensures { result ≡ finite_place (place_given place) }
 {
     match place {
         Place::Itself => true,
-        Place::At(p) => is_finite(p.x) & is_finite(p.y),
+        Place::At(p) => p.x.is_finite() && p.y.is_finite(),
     }
 }
 

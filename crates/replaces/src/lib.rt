@@ -4,63 +4,33 @@
 // all where that is the parent found last or the one missed last.
 #![tactic(auto)]
 
-ghost use Rattle.std.specs.Prelude.{◌≡◌, [], ◌∷◌, ◌≢◌, ◌<◌, ◌≤◌, length};
-ghost use Rattle.rules.specs.Rows.{none, doc_at};
-ghost use Rattle.rules.specs.Moves.{without, is_child, replaced};
-ghost use Rattle.rules.specs.Words.{table_of, rows_of, written};
+ghost use Rattle.std.specs.Prelude.{◌≡◌, [], ◌∷◌};
+ghost use Rattle.rules.specs.Moves.{replaced};
+ghost use Rattle.rules.specs.Words.{table_of, written};
 ghost use Rattle.rules.specs.Calls.{Call, refusals, NoneGiven, outcome};
 ghost use Rattle.sound.specs.Check.{Examined, Settles, Judged};
-ghost use Rattle.packs.specs.Packing.{Over};
 ghost use Rattle.replaces.specs.Answers.{replaced_is, number_rungs};
 
-use asks::Sight;
-use base::{DocNo, Refusal, RowPlace};
+use base::{DocNo, Refusal};
 use packs::Keeping;
-use reads::NONE;
-use sound::Check;
 
 // Refusal 8.
-fn judge_number(words: &[u32]) -> Check
-    requires { Examined words.now }
+fn judge_number(words: &[u32]) -> Result<(), Refusal>
     ensures { Settles (number_rungs words.now) result }
 {
-    if rows::next_document(words).0 == NONE {
-        return Check::No(Refusal::UsedUp);
+    if rows::next_document(words) == DocNo::NONE {
+        return Err(Refusal::UsedUp);
     }
-    Check::Sound
+    Ok(())
 }
 
 // Whether Replace is refused, and how, of a sound record.
-fn judge(words: &[u32], d: DocNo) -> Check
+fn judge(words: &[u32], d: DocNo) -> Result<(), Refusal>
     requires { Examined words.now }
     ensures { Judged (Call.Replace words.now d.0) result }
 {
-    match asks::seen(words, d) {
-        Sight::Refused(r) => Check::No(r),
-        Sight::Hidden(h, _) => Check::No(Refusal::Hidden(h)),
-        Sight::Visible(_) => judge_number(words),
-    }
-}
-
-// Removes what is beneath the document of a row and closes the gaps: the rows up to that one stay where they are. How many rows stay.
-fn close_gaps(words: &mut [u32], at: RowPlace, d: DocNo) -> usize
-    requires { Examined words.old × ((table_of words.old).next_doc ≤ none) × ((table_of words.old).next_doc ≢ none) × (at.0 < length (rows_of words.old)) × (doc_at (rows_of words.old) at.0 ≡ d.0) }
-    ensures { Over (without (is_child (rows_of words.old) d.0) (rows_of words.old)) words.old result words.new }
-{
-    let n = rows::row_count(words);
-    let missed = rows::next_document(words);
-    let mut i = at.0 + 1;
-    let mut kept = Keeping {
-        rows: i,
-        found: d,
-        missed,
-    };
-    while i < n {
-        let passes = reads::parent(words, RowPlace(i)).0 == d.0;
-        kept = packs::turn(words, RowPlace(i), passes, kept);
-        i += 1;
-    }
-    kept.rows
+    asks::judge_sight(words, d)?;
+    judge_number(words)
 }
 
 // Replaces where no refusal is given. The new document.
@@ -72,36 +42,31 @@ fn go_on(words: &mut [u32], d: DocNo) -> DocNo
     let m = rows::next_document(words);
     let top = rows::next_frame_number(words);
     let at = packs::place_before(words, n, d);
-    let k = close_gaps(words, at, d);
+    // The rows up to the document's own stay where they are.
+    let start = Keeping {
+        rows: at.0 + 1,
+        found: d,
+        missed: m,
+    };
+    let k = packs::close_gaps(words, d, start);
     writes::put_document(words, at, m);
     packs::end_rows(words, k, n, DocNo(m.0 + 1), top);
     m
 }
 
-// What Replace answers: the new document.
-#[derive(Clone, Copy)]
-pub enum Replaced {
-    Arrived(DocNo),
-    Refused(Refusal),
-}
-
-// Replaces a document of a sound record.
-fn replace_sound(words: &mut [u32], d: DocNo) -> Replaced
+// Replaces a document of a sound record. The new document.
+fn replace_sound(words: &mut [u32], d: DocNo) -> Result<DocNo, Refusal>
     requires { Examined words.old }
     ensures { outcome (Call.Replace words.old d.0) ≡ record { answer = replaced_is result; lent = words.new ∷ [] } }
 {
-    match judge(words, d) {
-        Check::No(r) => Replaced::Refused(r),
-        Check::Sound => Replaced::Arrived(go_on(words, d)),
-    }
+    judge(words, d)?;
+    Ok(go_on(words, d))
 }
 
-// Replaces a document in its own row.
-pub fn replace(words: &mut [u32], d: DocNo) -> Replaced
+// Replaces a document in its own row. The new document.
+pub fn replace(words: &mut [u32], d: DocNo) -> Result<DocNo, Refusal>
     ensures { outcome (Call.Replace words.old d.0) ≡ record { answer = replaced_is result; lent = words.new ∷ [] } }
 {
-    match sound::examine(words) {
-        Check::No(r) => Replaced::Refused(r),
-        Check::Sound => replace_sound(words, d),
-    }
+    sound::examine(words)?;
+    replace_sound(words, d)
 }

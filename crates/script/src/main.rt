@@ -10,7 +10,6 @@ ghost use Rattle.script.specs.Runs.{Answers, ReadsOnce};
 use anyhow::{Context, Result, bail};
 use std::io::{Read, Write};
 use std::process::ExitCode;
-use texts::Finished;
 
 // Writes a part of the answers.
 fn print<W: Write>(output: &mut W, text: &[u8]) -> Result<()>
@@ -91,7 +90,7 @@ fn finish<W: Write>(
     ensures { OnOk result (67 ≤ length out.old
         → Appends (W.contents output.old) (W.contents output.new) (answers words.old changes.old (unended (take kept line.now)))) }
 {
-    let Finished::Printed(used) = texts::finish(line, kept, words, changes, out) else {
+    let Some(used) = texts::finish(line, kept, words, changes, out) else {
         return Ok(());
     };
     print(output, &out[..used])

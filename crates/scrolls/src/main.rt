@@ -2,12 +2,11 @@
 #![tactic(auto)]
 
 use base::{DocNo, Refusal};
-use places::{Placed, Setting};
 use points::{Place, Point};
 use std::io;
 
 // No parent.
-const NONE: u32 = 4294967295;
+const NONE: u32 = DocNo::NONE.0;
 
 // An entry that is free.
 const FREE: u64 = 4294967295;
@@ -23,11 +22,6 @@ const ENDLESS: u64 = 0x7ff0000000000000;
 
 const ODD: u64 = 0x7ff8000000000abc;
 
-// Writes a refusal's number.
-fn say_refused(rt: &impl Print, r: Refusal) -> io::Result<()> {
-    println!(rt; " refused {}", base::refusal_number(r))
-}
-
 // The words of two entries.
 fn say_store(rt: &impl Print, store: &[u64; 8]) -> io::Result<()> {
     let [d, kind, x, y, d2, kind2, x2, y2] = *store;
@@ -38,16 +32,16 @@ fn say_store(rt: &impl Print, store: &[u64; 8]) -> io::Result<()> {
 fn say_place(rt: &impl Print, words: &[u32], place: Place) -> io::Result<()> {
     let mut entry = [FREE, 0, 0, 0];
     match places::set_place(words, &mut entry, DocNo(0), place) {
-        Setting::Done => println!(rt; " {} {} {}", entry[1], entry[2], entry[3]),
-        Setting::Refused(r) => say_refused(rt, r),
+        Ok(()) => println!(rt; " {} {} {}", entry[1], entry[2], entry[3]),
+        Err(r) => println!(rt; " refused {r}"),
     }
 }
 
 // An answer, told.
-fn say_placed(rt: &impl Print, words: &[u32], answer: Placed) -> io::Result<()> {
+fn say_placed(rt: &impl Print, words: &[u32], answer: Result<Place, Refusal>) -> io::Result<()> {
     match answer {
-        Placed::Stands(place) => say_place(rt, words, place),
-        Placed::Refused(r) => say_refused(rt, r),
+        Ok(place) => say_place(rt, words, place),
+        Err(r) => println!(rt; " refused {r}"),
     }
 }
 
@@ -55,8 +49,8 @@ fn say_placed(rt: &impl Print, words: &[u32], answer: Placed) -> io::Result<()> 
 fn set(rt: &impl Print, words: &[u32], store: &mut [u64], d: u32, place: Place) -> io::Result<()> {
     print!(rt; "  set {d}:")?;
     match places::set_place(words, store, DocNo(d), place) {
-        Setting::Done => println!(rt; " done"),
-        Setting::Refused(r) => say_refused(rt, r),
+        Ok(()) => println!(rt; " done"),
+        Err(r) => println!(rt; " refused {r}"),
     }
 }
 

@@ -13,7 +13,7 @@ use Rattle.turns.specs.Turns.{turned}
 use Rattle.texts.specs.Feeds.{Answered, Settled, LastAnswered, Finishes}
 use Rattle.texts.specs.Texts.{unended}
 use Rattle.texts.specs.declared.Cut.{Cut}
-use Rattle.texts.specs.declared.Finished.TheVariants.{Printed}
+use Rattle.std.specs.Prelude.{Some}
 
 -- As many bytes as there are of a line are all of it.
 take-least : (line : List ℕ) (kept n : ℕ) → n ≡ min kept (length line) → take n line ≡ take kept line
@@ -48,14 +48,14 @@ settled-ended c words changes line out used n words' changes' out' r t e a =
 
 module _ (words changes line : List ℕ) (kept : ℕ) (out : List ℕ) (n : ℕ) (least : n ≡ min kept (length line)) where
   -- No line has begun.
-  pub finished-none : n ≡ 0 → 67 ≤ length out → Finishes words changes line kept out (Printed 0) words changes out
+  pub finished-none : n ≡ 0 → 67 ≤ length out → Finishes words changes line kept out (Some 0) words changes out
   finished-none z room =
       let e : take kept line ≡ [] = sym (take-least line kept n least) ∙ ap (λ k. take k line) z in
       (subst (λ l. LastAnswered (unended l) words changes out words changes out 0) (sym e) (refl, refl, refl, refl), room)
 
   -- A line has begun, and is answered.
   pub finished-last : (n ≡ 0 → ⊥) → 67 ≤ length out → (words' changes' out' : List ℕ) (r : ℕ) → Answered words changes (take n line) out 0 words' changes' out' r →
-      Finishes words changes line kept out (Printed r) words' changes' out'
+      Finishes words changes line kept out (Some r) words' changes' out'
   finished-last some room words' changes' out' r a =
       let e = take-least line kept n least in
       let l : 0 < length (take kept line) = omega (arith, ap length e, length-take n line, not-zero n some) in

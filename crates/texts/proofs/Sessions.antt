@@ -11,7 +11,7 @@ use Rattle.lines.specs.Reply.{answer_text}
 use Rattle.turns.specs.Turns.{turned}
 use Rattle.texts.specs.Texts.{unended, lines_from, answers, printed, script_text}
 use Rattle.texts.specs.Feeds.{Reader, read_by, printed_by, Alike, Same, Session, LastAnswered, Finishes}
-use Rattle.texts.specs.declared.Finished.TheVariants.{Printed}
+use Rattle.std.specs.Prelude.{Some}
 use Rattle.texts.proofs.Lines.{read-append, printed-append, printed-whole}
 use Rattle.texts.proofs.Alike.{alike_turned, same-trans, same_self, same_read, same-printed}
 use Rattle.texts.proofs.Feeding.{take-written}
@@ -48,7 +48,7 @@ session-prints {s} {r} {text} {out} k =
     let b = so-far k in ap (λ o. o ++ last r) b.0 ∙ ap (λ l. printed_by s text ++ l) (last-same r (read_by s text) b.1) ∙ sym (printed-whole text s)
 
 -- What `finish` leaves in out is the last line's answer.
-pub finish-prints : (words changes line : List ℕ) (kept : ℕ) (out : List ℕ) (n : ℕ) (words' changes' out' : List ℕ) → Finishes words changes line kept out (Printed n) words' changes' out' →
+pub finish-prints : (words changes line : List ℕ) (kept : ℕ) (out : List ℕ) (n : ℕ) (words' changes' out' : List ℕ) → Finishes words changes line kept out (Some n) words' changes' out' →
     take n out' ≡ last (record { words = words; changes = changes; begun = take kept line })
 unfolding answers
 finish-prints words changes line kept out n words' changes' out' h = by-line (take kept line) h.0

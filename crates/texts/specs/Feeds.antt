@@ -1,5 +1,5 @@
 -- A text read in parts: what a reader has printed and where it stands. Definitions.
-use Rattle.std.specs.Prelude.{ℕ, ◌+◌, ◌*◌, ◌≤◌, ◌<◌, true, false, cond, List, [], ◌∷◌, ◌++◌, ◌⊎◌, ◌≡◌, eqb, length, take, drop}
+use Rattle.std.specs.Prelude.{ℕ, ◌+◌, ◌*◌, ◌≤◌, ◌<◌, true, false, cond, List, [], ◌∷◌, ◌++◌, ◌⊎◌, Option, None, Some, ◌≡◌, eqb, length, take, drop}
 use Rattle.laws.specs.Writes.{Wrote}
 use Rattle.lines.specs.Reply.{answer_text}
 use Rattle.turns.specs.Turns.{turned}
@@ -7,8 +7,6 @@ use Rattle.texts.specs.Texts.{unended}
 use Rattle.texts.specs.declared.Cut.{Cut}
 use Rattle.texts.specs.declared.Place.{Place}
 use Rattle.texts.specs.declared.Fed.{Fed}
-use Rattle.texts.specs.declared.Finished.{Finished}
-use Rattle.texts.specs.declared.Finished.TheVariants.{Printed, Short}
 
 -- A reader in the middle of a text: the record, the words for change rows, and the bytes of the line that has begun.
 pub record Reader : Type 0 where
@@ -88,9 +86,9 @@ LastAnswered [] words changes out words' changes' out' n = (words' ≡ words) ×
 LastAnswered (line ∷ lines) words changes out words' changes' out' n = Answered words changes line out 0 words' changes' out' n
 
 -- A text ended: the line that lacks its newline was answered, if there is one; nothing is changed where out is too short for an answer.
-abbrev pub Finishes : List ℕ → List ℕ → List ℕ → ℕ → List ℕ → Finished → List ℕ → List ℕ → List ℕ → Type 0
-Finishes words changes line kept out (Printed n) words' changes' out' = LastAnswered (unended (take kept line)) words changes out words' changes' out' n × (67 ≤ length out)
-Finishes words changes line kept out Short words' changes' out' = (words' ≡ words) × (changes' ≡ changes) × (out' ≡ out) × (length out < 67)
+abbrev pub Finishes : List ℕ → List ℕ → List ℕ → ℕ → List ℕ → Option ℕ → List ℕ → List ℕ → List ℕ → Type 0
+Finishes words changes line kept out (Some n) words' changes' out' = LastAnswered (unended (take kept line)) words changes out words' changes' out' n × (67 ≤ length out)
+Finishes words changes line kept out None words' changes' out' = (words' ≡ words) × (changes' ≡ changes) × (out' ≡ out) × (length out < 67)
 
 -- Parts of a text read one after the other: the text so far, what it printed, and where the reader stands then.
 pub data Session (s : Reader) : List ℕ → List ℕ → Reader → Type 0 where

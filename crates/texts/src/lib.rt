@@ -11,7 +11,7 @@ ghost use Rattle.texts.specs.Cuts.{grown, Cuts};
 ghost use Rattle.texts.specs.Feeds.{Answered, Settled, Feeds, Finishes};
 
 use base::{DocNo, FrameNo, Refusal};
-use lines::Reply;
+use lines::{Progress, Reply};
 
 // Where a reading of a text has come to: the place after what was read, how many bytes of the line are kept, and whether the line has ended.
 #[derive(Clone, Copy)]
@@ -37,10 +37,9 @@ pub fn read_line(text: &[u8], from: usize, line: &mut [u8], kept: usize) -> Cut
     ensures { Cuts text.now from line.old kept result line.new }
 {
     let mut len = kept;
-    let mut i = from;
-    while i < text.len() {
+    for i in from..text.len() {
         let b = text[i];
-        if b == 10 {
+        if b == b'\n' {
             return Cut {
                 at: i + 1,
                 kept: len,
@@ -48,39 +47,38 @@ pub fn read_line(text: &[u8], from: usize, line: &mut [u8], kept: usize) -> Cut
             };
         }
         len = keep(line, len, b);
-        i += 1;
     }
     Cut {
-        at: i,
+        at: from.max(text.len()),
         kept: len,
         ended: false,
     }
 }
 
 // Puts the answer to an accepted call into out, and says where it ends.
-fn put_ok(out: &mut [u8], at: usize, v: usize, p: usize, s: usize) -> usize
+fn put_ok(out: &mut [u8], at: usize, v: usize, progress: Progress) -> usize
     requires { at + 67 ≤ length out.old }
-    ensures { Wrote out.old at (answer_text (Said.ok v p s)) out.new result × (result ≤ at + 67) }
+    ensures { Wrote out.old at (answer_text (Said.ok v progress.position progress.steps)) out.new result × (result ≤ at + 67) }
 {
-    lines::put_answer(out, at, Reply::Ok(v, p, s))
+    lines::put_answer(out, at, Reply::Ok(v, progress))
 }
 
 // Puts the answer to `tab` into out, and says where it ends.
-fn put_tab(out: &mut [u8], at: usize, d: DocNo, f: FrameNo, p: usize, s: usize) -> usize
+fn put_tab(out: &mut [u8], at: usize, d: DocNo, f: FrameNo, progress: Progress) -> usize
     requires { at + 67 ≤ length out.old }
-    ensures { Wrote out.old at (answer_text (Said.tabbed d.0 f.0 p s)) out.new result × (result ≤ at + 67) }
+    ensures { Wrote out.old at (answer_text (Said.tabbed d.0 f.0 progress.position progress.steps)) out.new result × (result ≤ at + 67) }
 {
-    lines::put_answer(out, at, Reply::Tab(d, f, p, s))
+    lines::put_answer(out, at, Reply::Tab(d, f, progress))
 }
 
 // Puts the answer to a refused call into out, and says where it ends.
-fn put_no(out: &mut [u8], at: usize, why: Refusal, p: usize, s: usize) -> usize
+fn put_no(out: &mut [u8], at: usize, why: Refusal, progress: Progress) -> usize
     requires { at + 67 ≤ length out.old }
-    ensures { Wrote out.old at (answer_text (Said.denied (number_of why) (carried_by why) p s)) out.new result × (result ≤ at + 67) }
+    ensures { Wrote out.old at (answer_text (Said.denied (number_of why) (carried_by why) progress.position progress.steps)) out.new result × (result ≤ at + 67) }
 {
     // What the refusal carries is a number of 32 bits, so that the answer is no longer than others.
-    base::refusal_carries(why);
-    lines::put_answer(out, at, Reply::No(why, p, s))
+    why.carried();
+    lines::put_answer(out, at, Reply::No(why, progress))
 }
 
 // Puts an answer into out, where 67 bytes are left, which are room for any, and says where it ends.
@@ -89,9 +87,9 @@ fn put_reply(out: &mut [u8], at: usize, reply: Reply) -> usize
     ensures { Wrote out.old at (answer_text (reply_is reply)) out.new result × (result ≤ at + 67) }
 {
     match reply {
-        Reply::Ok(v, p, s) => put_ok(out, at, v, p, s),
-        Reply::Tab(d, f, p, s) => put_tab(out, at, d, f, p, s),
-        Reply::No(why, p, s) => put_no(out, at, why, p, s),
+        Reply::Ok(v, progress) => put_ok(out, at, v, progress),
+        Reply::Tab(d, f, progress) => put_tab(out, at, d, f, progress),
+        Reply::No(why, progress) => put_no(out, at, why, progress),
         Reply::Bad => lines::put_answer(out, at, Reply::Bad),
     }
 }
@@ -109,13 +107,6 @@ fn answer_line(
 {
     let reply = turns::turn(words, changes, line);
     put_reply(out, used, reply)
-}
-
-// The lesser of two counts.
-fn least(a: usize, b: usize) -> usize
-    ensures { result ≡ min a b }
-{
-    if a < b { a } else { b }
 }
 
 // How many bytes of a line are kept, and how many bytes of answers are there.
@@ -140,8 +131,8 @@ fn settle(
     if !c.ended {
         return Place { kept: c.kept, used };
     }
-    let n = least(c.kept, line.len());
-    let end = answer_line(&line[0..n], words, changes, out, used);
+    let n = c.kept.min(line.len());
+    let end = answer_line(&line[..n], words, changes, out, used);
     Place { kept: 0, used: end }
 }
 
@@ -182,29 +173,22 @@ pub fn feed(
     }
 }
 
-// What the end of a text gives: how many bytes of answers there are, or that out or the line's buffer is too short.
-#[derive(Clone, Copy)]
-pub enum Finished {
-    Printed(usize),
-    Short,
-}
-
-// Answers the last line of a text, where it lacks its newline.
+// Answers the last line of a text, where it lacks its newline. How many bytes of answers there are; nothing, where out or the line's buffer is too short.
 pub fn finish(
     line: &[u8],
     kept: usize,
     words: &mut [u32],
     changes: &mut [u32],
     out: &mut [u8],
-) -> Finished
+) -> Option<usize>
     ensures { Finishes words.old changes.old line.now kept out.old result words.new changes.new out.new }
 {
     if out.len() < 67 {
-        return Finished::Short;
+        return None;
     }
-    let n = least(kept, line.len());
+    let n = kept.min(line.len());
     if n == 0 {
-        return Finished::Printed(0);
+        return Some(0);
     }
-    Finished::Printed(answer_line(&line[0..n], words, changes, out, 0))
+    Some(answer_line(&line[..n], words, changes, out, 0))
 }

@@ -1,6 +1,5 @@
 pub mod Places
 pub mod Texts
-pub mod Goals
 pub mod Flagging
 pub mod Ways
 pub mod Among

@@ -9,6 +9,7 @@ use lib.Dec.{eqb, ltb}
 use lib.IntN.{ℤ, pos, negsuc, ◌+ℤ◌}
 use lib.ListN.{length, length-append}
 use borrow.Author.Tests.{lt-ltb, le-ltb, ltb-false}
+use Rattle.std.specs.Prelude.{Option, None, Some, Result, Ok, Err}
 use Rattle.base.specs.declared.Refusal.{Refusal}
 use Rattle.base.specs.declared.Refusal.TheVariants.{ShortBuffer, Beyond, NoRoot}
 use Rattle.rules.specs.Below.{some_below, count, rising}
@@ -30,21 +31,14 @@ use Rattle.windows.proofs.Only.{only-rows, only-traversed}
 use Rattle.sound.specs.Check.{Examined}
 use Rattle.sound.specs.Survey.{survey_of, Located}
 use Rattle.sound.specs.declared.Stand.{Stand}
-use Rattle.sound.specs.declared.Survey.{Survey}
-use Rattle.sound.specs.declared.Survey.TheVariants.{No}
+use Rattle.sound.specs.declared.Windows.{Windows}
 use Rattle.sound.proofs.Checks.{survey-given, examined-long, examined-sound, examined-fits}
-use Rattle.traverses.specs.declared.Traversed.TheVariants.{Changes, Refused}
-use Rattle.traverses.specs.declared.Goal.{Goal}
-use Rattle.traverses.specs.declared.Goal.TheVariants.{To, Outside}
 use Rattle.traverses.specs.declared.Trip.{Trip}
-use Rattle.traverses.specs.declared.Shifted.{Shifted}
-use Rattle.traverses.specs.declared.Shifted.TheVariants.{Went, Stayed}
-use Rattle.traverses.specs.Answers.{traversed_is, trip_text, Arrived, Foremost, Shifts, Travels}
+use Rattle.traverses.specs.Answers.{traversed_is, trip_text, Shifts, Travels}
 use Rattle.traverses.specs.Goals.{goal_of}
 use Rattle.traverses.specs.Places.{steps_to, PlaceOf, NextBetween}
 use Rattle.traverses.specs.Texts.{doc_from, change_text, text_below, places_text, moved_to, Ready, Start}
 use Rattle.traverses.proofs.Places.{stand-position, stand-steps, stand-rows, next-same}
-use Rattle.traverses.proofs.Texts.{begins-next, begins-none, no_text}
 
 -- READY
 
@@ -165,17 +159,12 @@ module _ (old : List ℕ) (a b : ℕ) (start : Start old a b) (new : List ℕ) (
 
 -- A refusal of whatever is lent.
 stays : (words : List ℕ) (δ : ℤ) (room : ℕ) (why : Refusal) →
-    ((r : ℕ) → So (is_root (rows_of words) r) → (lent : List ℕ) → length lent / 4 ≡ room → outcome (Call.Traverse words r δ lent) ≡ record { answer = traversed_is (Refused why); lent = words ∷ lent ∷ [] }) →
-    Shifts words δ room (Stayed why) words
+    ((r : ℕ) → So (is_root (rows_of words) r) → (lent : List ℕ) → length lent / 4 ≡ room → outcome (Call.Traverse words r δ lent) ≡ record { answer = traversed_is (Err why); lent = words ∷ lent ∷ [] }) →
+    Shifts words δ room (Err why) words
 stays words δ room why h =
-    let e = no_text (table_of words) 0 in
     record {
-      outcome-is = λ r root lent l. h r root lent l ∙ ap (λ z. record { answer = traversed_is (Refused why); lent = words ∷ z ∷ [] }) (put-none lent 0 ∙ ap (put lent 0) (sym e));
-      sized = ap length (sym e);
-      begins = begins-none (table_of words) 0 0;
-      foremost = tt;
-      fits = omega arith;
-      arrived = tt;
+      outcome-is = λ r root lent l. h r root lent l ∙ ap (λ z. record { answer = traversed_is (Err why); lent = words ∷ z ∷ [] }) (put-none lent 0);
+      arrived = λ t e. absurd (let z : ◌≡◌ {A = ℕ} 0 1 = cc in omega arith);
     }
 
 -- In a record of one window that of its root frame is the table, and so is what a traversal makes of it.
@@ -236,79 +225,72 @@ module _ (words : List ℕ) (s : Stand) (h : Located words s) (word : (table_of 
     counts : (δ : ℤ) → pos s.position +ℤ δ ≡ pos to → 4 * count ≡ length (changes (table_of words) δ)
     counts δ e = counted ∙ ap length (sym (changes-are δ e))
 
-    pub travel-short : room < count → Travels words room s.position to (Stayed ShortBuffer) words
+    pub travel-short : room < count → Travels words room s.position to (Err ShortBuffer) words
     travel-short l δ e =
         stays words δ room ShortBuffer (λ r root lent x.
         let n = counts δ e in
         let m : length lent < length (changes (table_of words) δ) = omega arith in only-past words s h word r root δ lent _ _ (within δ e) (lt-ltb _ _ m))
 
     pub travel-done : (words' : List ℕ) (first : ℕ) → NextBetween (table_of words) 0 a b first → count ≤ room → words' ≡ written words (moved_to (table_of words) b) →
-        Travels words room s.position to (Went (record { before = record { 0 = a }; after = record { 0 = b }; first = record { 0 = first }; count = count })) words'
+        Travels words room s.position to (Ok (record { span = record { before = record { 0 = a }; after = record { 0 = b } }; first = record { 0 = first }; count = count })) words'
     travel-done words' first f l u δ e =
         let text = moved-text words a b start words' u in
-        let next = moved-next words a b start words' u first f in
         record {
           outcome-is = λ r root lent x.
               let n = counts δ e in
               let m : length (changes (table_of words) δ) ≤ length lent = omega arith in
               let k : length (changes_to (table_of words) b) / 4 ≡ count = omega (arith, counted) in
               only-past words s h word r root δ lent _ _ (within δ e) (le-ltb _ _ m) ∙ gives_to r root δ e lent ∙ rw (k, text, u) refl;
-          sized = counted ∙ ap length (sym text);
-          begins = begins-next (table_of words') a b first next;
-          foremost = next;
-          fits = l;
-          arrived = moved_ready words a b start words' u;
+          arrived = λ t q.
+              let q' : t ≡ record { span = record { before = record { 0 = a }; after = record { 0 = b } }; first = record { 0 = first }; count = count } = cc in
+              rw q' (record {
+                ready = moved_ready words a b start words' u;
+                foremost = moved-next words a b start words' u first f;
+                sized = counted ∙ ap length (sym text);
+                fits = l;
+              });
         }
 
 -- Where an amount leads.
-pub goal-to : (s : ℕ) (z : ℤ) (r : Goal) (q : ℕ) → r ≡ goal_of s z → r ≡ To q → (z ≡ pos q) × (q ≤ s)
+pub goal-to : (s : ℕ) (z : ℤ) (r : Option ℕ) (q : ℕ) → r ≡ goal_of s z → r ≡ Some q → (z ≡ pos q) × (q ≤ s)
 goal-to s (pos k) r q e f =
     test (ltb s k)
-    (λ t. let g : Outside ≡ To q = rw t at (sym e ∙ f) in absurd (let z : ◌≡◌ {A = ℕ} 0 1 = cc in omega arith))
-    (λ t. let g : To k ≡ To q = rw t at (sym e ∙ f) in let h : k ≡ q = cc in (ap pos h, omega (arith, ltb-false s k t)))
+    (λ t. let g : None ≡ Some q = rw t at (sym e ∙ f) in absurd (let z : ◌≡◌ {A = ℕ} 0 1 = cc in omega arith))
+    (λ t. let g : Some k ≡ Some q = rw t at (sym e ∙ f) in let h : k ≡ q = cc in (ap pos h, omega (arith, ltb-false s k t)))
 goal-to s (negsuc k) r q e f = absurd (let z : ◌≡◌ {A = ℕ} 0 1 = cc in omega arith)
 
-pub goal-outside : (s : ℕ) (z : ℤ) (r : Goal) → r ≡ goal_of s z → r ≡ Outside → So (outside s z)
+pub goal-outside : (s : ℕ) (z : ℤ) (r : Option ℕ) → r ≡ goal_of s z → r ≡ None → So (outside s z)
 goal-outside s (pos k) r e f =
-    test (ltb s k) (λ t. t) (λ t. let g : To k ≡ Outside = rw t at (sym e ∙ f) in absurd (let z : ◌≡◌ {A = ℕ} 0 1 = cc in omega arith))
+    test (ltb s k) (λ t. t) (λ t. let g : Some k ≡ None = rw t at (sym e ∙ f) in absurd (let z : ◌≡◌ {A = ℕ} 0 1 = cc in omega arith))
 goal-outside s (negsuc k) r e f = refl
 
 pub beyond-way : (words : List ℕ) (room : ℕ) (δ : ℤ) (s : Stand) → Located words s → (table_of words).next_doc ≤ none → So (outside s.steps (pos s.position +ℤ δ)) →
-    Shifts words δ room (Stayed Beyond) words
+    Shifts words δ room (Err Beyond) words
 beyond-way words room δ s x word h =
     let g : So (beyond (rows_of words) δ) = rw (stand-position words s x, stand-steps words s x) at h in
     stays words δ room Beyond (λ r root lent z. only-past words s x word r root δ lent _ _ g refl)
 
 -- An amount as it is handed on.
-pub by-amount : (words room : List ℕ) (r : ℕ) (o : Outcome) (z δ : ℤ) → z ≡ δ → outcome (Call.Traverse words r z room) ≡ o → outcome (Call.Traverse words r δ room) ≡ o
-by-amount words room r o z δ e h = subst (λ d. outcome (Call.Traverse words r d room) ≡ o) e h
-
-pub shift_by : (words words' : List ℕ) (room : ℕ) (s : Shifted) (z δ : ℤ) → z ≡ δ → Shifts words z room s words' → Shifts words δ room s words'
+pub shift_by : (words words' : List ℕ) (room : ℕ) (s : Result Trip Refusal) (z δ : ℤ) → z ≡ δ → Shifts words z room s words' → Shifts words δ room s words'
 shift_by words words' room s z δ e h = subst (λ d. Shifts words d room s words') e h
 
 -- Refused by the first two rungs,
-pub survey-way : (words : List ℕ) (r : ℕ) (δ : ℤ) (lent : List ℕ) (k : Survey) (why : Refusal) → k ≡ survey_of words → k ≡ No why →
-    outcome (Call.Traverse words r δ lent) ≡ record { answer = traversed_is (Refused why); lent = words ∷ lent ∷ [] }
+pub survey-way : (words : List ℕ) (r : ℕ) (δ : ℤ) (lent : List ℕ) (k : Result Windows Refusal) (why : Refusal) → k ≡ survey_of words → k ≡ Err why →
+    outcome (Call.Traverse words r δ lent) ≡ record { answer = traversed_is (Err why); lent = words ∷ lent ∷ [] }
 unfolding refusals
 survey-way words r δ lent k why e f = outcome-refused (Call.Traverse words r δ lent) _ _ (survey-given words _ k why e f)
 
 -- or by the third.
 pub root-way : (words : List ℕ) (r : ℕ) (δ : ℤ) (lent : List ℕ) → Examined words → is_root (rows_of words) r ≡ false →
-    outcome (Call.Traverse words r δ lent) ≡ record { answer = traversed_is (Refused NoRoot); lent = words ∷ lent ∷ [] }
+    outcome (Call.Traverse words r δ lent) ≡ record { answer = traversed_is (Err NoRoot); lent = words ∷ lent ∷ [] }
 unfolding refusals Given
 root-way words r δ lent x f = outcome-refused (Call.Traverse words r δ lent) 13 [] (inr (x.long, inr (rw x.passes refl, inl (rw f refl, refl, refl))))
 
--- Whoever writes the change rows of a shift.
-pub went-ready : (words words' : List ℕ) (δ : ℤ) (room : ℕ) (s : Shifted) → Shifts words δ room s words' → (t : Trip) → s ≡ Went t → Ready words' t.before.0 t.after.0 × NextBetween (table_of words') 0 t.before.0 t.after.0 t.first.0
-went-ready words words' δ room s h t e = (subst (Arrived words') e h.arrived, subst (Foremost words') e h.foremost)
+-- What is answered and left where a shift went, and where it was refused.
+module _ (words words' : List ℕ) (r : ℕ) (root : So (is_root (rows_of words) r)) (δ : ℤ) (room : ℕ) (s : Result Trip Refusal) (h : Shifts words δ room s words') where
+  pub went-way : (t : Trip) → s ≡ Ok t → (lent lent' : List ℕ) → length lent / 4 ≡ room → lent' ≡ put lent 0 (trip_text words' t) →
+      outcome (Call.Traverse words r δ lent) ≡ record { answer = traversed_is (Ok t.count); lent = words' ∷ lent' ∷ [] }
+  went-way t e lent lent' l w = h.outcome-is r root lent l ∙ rw (e, w) refl
 
-module _ (words words' : List ℕ) (r : ℕ) (root : So (is_root (rows_of words) r)) (δ : ℤ) (s : Shifted) (lent : List ℕ) where
-  pub went-way : (lent' : List ℕ) → Shifts words δ (length lent / 4) s words' → (t : Trip) → s ≡ Went t → lent' ≡ put lent 0 (trip_text words' t) →
-      outcome (Call.Traverse words r δ lent) ≡ record { answer = traversed_is (Changes t.count); lent = words' ∷ lent' ∷ [] }
-  went-way lent' h t e w = h.outcome-is r root lent refl ∙ rw (e, w) refl
-
-  pub stayed-way : Shifts words δ (length lent / 4) s words' → (why : Refusal) → s ≡ Stayed why →
-      outcome (Call.Traverse words r δ lent) ≡ record { answer = traversed_is (Refused why); lent = words' ∷ lent ∷ [] }
-  stayed-way h why e =
-      h.outcome-is r root lent refl
-      ∙ rw e (ap (λ z. record { answer = traversed_is (Refused why); lent = words' ∷ z ∷ [] }) (ap (put lent 0) (no_text (table_of words') 0) ∙ sym (put-none lent 0)))
+  pub stayed-way : (why : Refusal) → s ≡ Err why → (lent : List ℕ) → length lent / 4 ≡ room → outcome (Call.Traverse words r δ lent) ≡ record { answer = traversed_is (Err why); lent = words' ∷ lent ∷ [] }
+  stayed-way why e lent l = h.outcome-is r root lent l ∙ rw e (ap (λ z. record { answer = traversed_is (Err why); lent = words' ∷ z ∷ [] }) (sym (put-none lent 0)))

@@ -32,12 +32,12 @@ gone-by o a b words rows said e g f = ap gone e ∙ tells one_number a b words r
 -- A LINE
 
 -- A line does what the command does that it is read as.
-pub turned_by : (words rows line : List ℕ) (r : Read) (c : Command) (t : Turned) → command_is r ≡ parse line → command_is r ≡ c → obeyed words rows c ≡ t
+pub turned_by : (words rows line : List ℕ) (r : Option Read) (c : Command) (t : Turned) → command_is r ≡ parse line → command_is r ≡ c → obeyed words rows c ≡ t
     → turned words rows line ≡ t
 unfolding turned
 turned_by words rows line r c t e f g = ap (obeyed words rows) (sym e ∙ f) ∙ g
 
 -- A line that goes does so by the amount that the traversal is handed.
-pub turned-gone : (words rows line : List ℕ) (r : Read) (root : ℕ) (δ z : ℤ) (t : Turned) → command_is r ≡ parse line → command_is r ≡ Command.goes root δ → z ≡ δ
+pub turned-gone : (words rows line : List ℕ) (r : Option Read) (root : ℕ) (δ z : ℤ) (t : Turned) → command_is r ≡ parse line → command_is r ≡ Command.goes root δ → z ≡ δ
     → gone (outcome (Call.Traverse words root z rows)) ≡ t → turned words rows line ≡ t
 turned-gone words rows line r root δ z t e f a g = turned_by words rows line r (Command.goes root δ) t e f (sym (ap (λ x. gone (outcome (Call.Traverse words root x rows))) a) ∙ g)

@@ -2,10 +2,14 @@
 -- "Accepted: `ok`, then the new document number (open, nav) or the count of changed frames (go), then position/steps.
 -- Refused: `no`, the refusal, position/steps." "`drop F`, with the count of rows removed as its value" (document 02, L1); what 5 carries comes before the position (L4);
 -- "`replace D`, its value the new number" (L7); "`tab` (its value: document and root frame, one space between)" (L10).
-use Rattle.std.specs.Prelude.{ℕ, List, [], ◌≡◌, get_or}
+use Rattle.std.specs.Prelude.{ℕ, List, [], Result, Ok, Err, ◌≡◌, get_or}
+use Rattle.base.specs.declared.Refusal.{Refusal}
+use Rattle.base.specs.Numbers.{number_of, carried_by}
 use Rattle.rules.specs.Calls.{Call, Answer, Outcome, outcome}
 use Rattle.lines.specs.Lines.{Command, parse}
 use Rattle.lines.specs.Reply.{Said}
+use Rattle.turns.specs.declared.Value.{Value}
+use Rattle.turns.specs.declared.Value.TheVariants as Values
 
 -- A number, where window 0 stands; where Position itself refuses, its refusal at 0/0.
 abbrev pub ok_at : Answer → ℕ → Said
@@ -21,6 +25,12 @@ tab_at (Answer.refuses k carried) d f = Said.denied k carried 0 0
 abbrev pub denied_at : Answer → ℕ → List ℕ → Said
 denied_at (Answer.gives at) k carried = Said.denied k carried (get_or at 0 0) (get_or at 1 0)
 denied_at (Answer.refuses k' carried') k carried = Said.denied k' carried' 0 0
+
+-- What is told of a call, as the code has it, in these words.
+abbrev pub replied : Answer → Result Value Refusal → Said
+replied at (Ok (Values.Number v)) = ok_at at v
+replied at (Ok (Values.Window d f)) = tab_at at d.0 f.0
+replied at (Err r) = denied_at at (number_of r) (carried_by r)
 
 -- How the values that a call gives are told, by Position's answer.
 abbrev pub Teller : Type 0

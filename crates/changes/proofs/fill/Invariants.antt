@@ -1,10 +1,6 @@
 -- What the loop of `changes::fill` keeps: the change rows of the frames before `from` are filled, and there are i of them.
-use Prim.Native.Nat.{◌-◌}
 use Rattle.changes.proofs.Filling.{Filled}
 use Rattle.changes.proofs.fill.Given as goal
 
 abbrev pub invariant-loop-i : goal.invariant-loop-i
 invariant-loop-i l = Filled l.words l.route l.initial.rows l.rows l.i l.from.0
-
-abbrev pub decreases-loop-i : goal.decreases-loop-i
-decreases-loop-i l = l.n - l.i

@@ -3,4 +3,4 @@ use Rattle.changes.proofs.Filling.{row_made}
 use Rattle.changes.proofs.row_between.Goals as goal
 
 pub returns : goal.returns
-returns c = row_made c.args.words.now _ _ _ c.requires _ c.next_change-c.ensures _ _ _ _ c.document-old.ensures c.document-new.ensures c.climb.ensures (c.shared_slice_known-1.given 2) c.change_row.ensures
+returns c = row_made c.args.words.now _ _ _ c.requires _ c.next_change.ensures _ c.unwrap-c.ensures _ _ _ _ c.document.ensures c.document-2.ensures c.climb.ensures c.from.ensures (c.shared_slice_known-1.given 2)

@@ -1,11 +1,7 @@
 -- The goals of `contents::contents` that want a word.
 use mathlib.Core.Path.{◌∙◌}
-use borrow.Author.Tests.{not-true, not-false}
 use Rattle.laws.proofs.Calls.{contents-is}
 use Rattle.contents.proofs.contents.Goals as goal
 
-pub returns-then-not-r : goal.returns-then-not-r
-returns-then-not-r c = contents-is c.args.bytes.now ∙ c.read-r.ensures.wrong (not-true _ c.if-not-r.true)
-
 pub returns : goal.returns
-returns c = contents-is c.args.bytes.now ∙ c.read-r.ensures.right (not-false _ c.if-not-r.false)
+returns c = contents-is c.args.bytes.now ∙ c.read.ensures

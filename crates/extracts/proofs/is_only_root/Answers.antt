@@ -10,4 +10,4 @@ pub frame-requires : goal.frame-requires
 frame-requires c = record { fits = examined-fits _ c.requires.examined; below = omega (arith, (examined-sound _ c.requires.examined).table.s1.some) }
 
 pub returns : goal.returns
-returns c = ap (λ x. eqb x c.args.root.0) c.frame.ensures ∙ only-root c.args.words.now _ c.requires _
+returns c = c.eq.ensures ∙ ap (λ x. eqb x c.args.root.0) c.frame.ensures ∙ only-root c.args.words.now _ c.requires _

@@ -4,14 +4,13 @@ use Rattle.extracts.proofs.Returned.{walk-starts, walk_more, returning-starts, r
 use Rattle.extracts.proofs.put_back.Goals as goal
 
 pub loop-i-init : goal.loop-i-init
-loop-i-init c = (omega arith, walk-starts _ _, λ r h. returning-starts _ r _ h)
+loop-i-init c = (walk-starts _ _, λ r h. returning-starts _ r _ h)
 
 pub loop-i-preserved : goal.loop-i-preserved
 loop-i-preserved c = (
-  omega arith,
-  walk_more c.args.words.now c.args.own.now _ _ _ _ _ c.loop-i.invariant.1 c.give_flag-k.ensures (omega (arith, c.row_count-n.ensures)),
-  λ r h. returning-more c.args.words.now r c.args.own.now h _ _ _ _ _ (c.loop-i.invariant.2 r h) (omega (arith, c.row_count-n.ensures)) c.give_flag-k.ensures,
+  walk_more c.args.words.now c.args.own.now _ _ _ _ _ c.loop-i.invariant.0 c.give_flag-k.ensures (omega (arith, c.row_count-i-end.ensures)),
+  λ r h. returning-more c.args.words.now r c.args.own.now h _ _ _ _ _ (c.loop-i.invariant.1 r h) (omega (arith, c.row_count-i-end.ensures)) c.give_flag-k.ensures,
 )
 
 pub returns : goal.returns
-returns c = λ r h. returning-ends c.args.words.now r c.args.own.now h _ _ _ (c.loop-i.invariant.2 r h) (omega (arith, c.loop-i.invariant.0, c.row_count-n.ensures)) (omega (arith, c.loop-i-test.false, c.row_count-n.ensures))
+returns c = λ r h. returning-ends c.args.words.now r c.args.own.now h _ _ _ (c.loop-i.invariant.1 r h) (omega (arith, c.loop-i.auto.i-end, c.row_count-i-end.ensures)) (omega (arith, c.loop-i-test.false, c.row_count-i-end.ensures))

@@ -1,13 +1,9 @@
 -- The goals of `frame_history::frame_history_contents` that want a word.
 use mathlib.Core.Path.{sym, ap, ◌∙◌}
-use native.Mathlib.Omega.{arith}
 use Rattle.laws.proofs.Calls.{contents-is}
 use Rattle.contents.specs.Answers.{told_is}
-use Rattle.frame_history.proofs.Bounds.{contents-small}
+use Rattle.frame_history.proofs.Bounds.{contents-small, small-contents}
 use Rattle.frame_history.proofs.frame_history_contents.Goals as goal
 
-pub overflow_cast-position : goal.overflow_cast-position
-overflow_cast-position c = let b = contents-small 8 _ _ _ _ _ (sym (contents-is _) ∙ c.contents.ensures) (ap told_is c.in-At.is) in omega (arith, b)
-
-pub overflow_cast-steps : goal.overflow_cast-steps
-overflow_cast-steps c = let b = contents-small 8 _ _ _ _ _ (sym (contents-is _) ∙ c.contents.ensures) (ap told_is c.in-At.is) in omega (arith, b)
+pub told_contents-requires : goal.told_contents-requires
+told_contents-requires c = small-contents _ (λ t e. contents-small 8 _ _ _ _ _ (sym (contents-is _) ∙ c.contents-answer.ensures) (ap told_is e))

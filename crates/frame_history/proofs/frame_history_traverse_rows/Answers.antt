@@ -1,6 +1,9 @@
 -- The goals of `frame_history::frame_history_traverse_rows` that want a word.
-use Rattle.frame_history.proofs.Bounds.{traverse-told}
+use mathlib.Core.Path.{ap}
+use native.Mathlib.Omega.{arith}
+use Rattle.traverses.specs.Answers.{traversed_is}
+use Rattle.frame_history.proofs.Bounds.{traverse-small, small-count}
 use Rattle.frame_history.proofs.frame_history_traverse_rows.Goals as goal
 
-pub told-requires : goal.told-requires
-told-requires c = traverse-told _ _ _ _ c.traverse-answer.result _ c.traverse-answer.ensures
+pub told_count-requires : goal.told_count-requires
+told_count-requires c = small-count _ (λ n e. omega (arith, traverse-small _ _ _ _ _ _ _ c.traverse-answer.ensures (ap traversed_is e)))

@@ -7,7 +7,7 @@ pub put_byte-requires : goal.put_byte-requires
 put_byte-requires t c = room-one _ _ _ c.requires c.if-n-lt10.true
 
 pub returns-then-n-lt10 : goal.returns-then-n-lt10
-returns-then-n-lt10 t c = wrote_one _ _ _ _ _ _ c.if-n-lt10.true c.glyph.ensures c.put_byte.ensures
+returns-then-n-lt10 t c = wrote_one _ _ _ _ _ c.if-n-lt10.true c.put_byte.ensures
 
 pub put_decimal-k-requires : goal.put_decimal-k-requires
 put_decimal-k-requires t c =
@@ -19,4 +19,4 @@ pub put_byte-requires-2 : goal.put_byte-requires-2
 put_byte-requires-2 t c = wrote-below _ _ _ _ _ c.put_decimal-k.ensures (room-more _ _ _ c.requires c.if-n-lt10.false)
 
 pub returns : goal.returns
-returns t c = wrote-more _ _ _ _ _ _ _ _ c.if-n-lt10.false c.glyph-2.ensures c.put_decimal-k.ensures c.put_byte-2.ensures
+returns t c = wrote-more _ _ _ _ _ _ _ c.if-n-lt10.false c.put_decimal-k.ensures c.put_byte-2.ensures

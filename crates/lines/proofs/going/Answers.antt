@@ -1,13 +1,15 @@
 -- The goals of `lines::going` that want a word.
-use native.Mathlib.Nat.{sub-zero}
-use Rattle.lines.proofs.Commands.{blank-within, going-in, going-nowhere}
+use mathlib.Core.Path.{sym, ap, ◌∙◌}
+use Rattle.std.specs.Prelude.{Some, None}
+use Rattle.lines.specs.Lines.{command_is}
+use Rattle.lines.proofs.Commands.{going_alone, going_named}
 use Rattle.lines.proofs.going.Goals as goal
 
-pub slice_bounds-going_by-end : goal.slice_bounds-going_by-end
-slice_bounds-going_by-end c = blank-within c.args.text.now _ c.blank_at-at.ensures
+pub returns-in_default : goal.returns-in_default
+returns-in_default c = c.going_by.ensures ∙ going_alone c.args.text.now (sym c.blank.ensures ∙ c.in_default.is)
 
-pub returns-in-Is : goal.returns-in-Is
-returns-in-Is c = going-in c.args.text.now _ c.blank_at-at.ensures _ _ _ c.root_named.ensures c.in-Is.is (simp sub-zero at c.going_by.ensures)
+pub returns-in_err-root : goal.returns-in_err-root
+returns-in_err-root c = ap command_is c.from_residual.ensures ∙ going_named c.args.text.now _ None (sym c.blank.ensures ∙ c.in-Some.is) (sym c.in_err-root.was ∙ c.numeral.ensures)
 
-pub returns-in-Nothing : goal.returns-in-Nothing
-returns-in-Nothing c = going-nowhere c.args.text.now _ c.blank_at-at.ensures _ c.root_named.ensures c.in-Nothing.is
+pub returns : goal.returns
+returns c = c.going_by-2.ensures ∙ going_named c.args.text.now _ (Some _) (sym c.blank.ensures ∙ c.in-Some.is) (sym c.in_ok-root.was ∙ c.numeral.ensures)

@@ -1,12 +1,14 @@
 -- The goals of `lines::is_decimal` that want a word.
-use Rattle.lines.proofs.Numerals.{decimal-empty, decimal-leads, decimal-shape}
+use Rattle.std.proofs.Common.{arith, ◌∙◌}
+use Rattle.std.proofs.lemmas.Grind.{common_steps}
+use Rattle.lines.specs.Decimal.{decimal?}
+use Rattle.lines.proofs.Numerals.{all_ascii}
 use Rattle.lines.proofs.is_decimal.Goals as goal
 
-pub returns-then-text-eq0 : goal.returns-then-text-eq0
-returns-then-text-eq0 c = decimal-empty c.args.text.now c.if-text-eq0.true
+pub returns-then-not-leads_zero : goal.returns-then-not-leads_zero
+unfolding decimal?
+returns-then-not-leads_zero c = let h = c.all_digits.ensures ∙ all_ascii c.args.text.now in grind (arith, common_steps)
 
-pub returns-then-leads_zero : goal.returns-then-leads_zero
-returns-then-leads_zero c = decimal-leads c.args.text.now _ c.leads_zero.ensures c.if-leads_zero.true
-
-pub returns : goal.returns
-returns c = decimal-shape c.args.text.now _ _ c.if-text-eq0.false c.leads_zero.ensures c.if-leads_zero.false c.all_digits.ensures
+pub returns-else-not-leads_zero : goal.returns-else-not-leads_zero
+unfolding decimal?
+returns-else-not-leads_zero c = grind (arith, common_steps)

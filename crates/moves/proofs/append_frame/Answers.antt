@@ -13,14 +13,14 @@ put_row-requires c = let o = (tab-relies _ c.requires).roomy in omega arith
 pub overflow_add-n : goal.overflow_add-n
 overflow_add-n c = let o = (tab-relies _ c.requires).roomy in omega arith
 
-pub overflow_add-d : goal.overflow_add-d
-overflow_add-d c = let o = (tab-relies _ c.requires).doc in omega arith
+pub overflow_add-document : goal.overflow_add-document
+overflow_add-document c = let o = (tab-relies _ c.requires).doc in omega arith
 
-pub overflow_add-f : goal.overflow_add-f
-overflow_add-f c = let o = (tab-relies _ c.requires).frame in omega arith
+pub overflow_add-frame : goal.overflow_add-frame
+overflow_add-frame c = let o = (tab-relies _ c.requires).frame in omega arith
 
 pub put_head-requires : goal.put_head-requires
 put_head-requires c = let o = tab-relies _ c.requires in let l = o.long in let r = o.roomy in let e = ap length c.put_row.ensures ∙ length-put _ _ _ in omega arith
 
 pub returns : goal.returns
-returns c = append-done c.args.words.now (tab-relies _ c.requires) _ _ _ _ _ _ c.row_count-n.ensures c.next_document-d.ensures c.next_frame_number-f.ensures c.put_row.ensures c.put_head.ensures
+returns c = append-done c.args.words.now (tab-relies _ c.requires) _ _ _ _ _ _ c.row_count-n.ensures c.next_document-document.ensures c.next_frame_number-frame.ensures c.put_row.ensures c.put_head.ensures

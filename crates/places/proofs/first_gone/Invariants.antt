@@ -1,5 +1,5 @@
 -- What the loops of `places::first_gone` keep.
-use Prim.Native.Nat.{◌≤◌, ◌-◌}
+use Prim.Native.Nat.{◌≤◌}
 use mathlib.Core.Bool.{false}
 use mathlib.Core.Path.{◌≡◌}
 use Rattle.rules.specs.Below.{some_below}
@@ -9,6 +9,3 @@ use Rattle.places.proofs.first_gone.Given as goal
 
 abbrev pub invariant-loop-i : goal.invariant-loop-i
 invariant-loop-i l = (l.i ≤ l.n) × (some_below l.i (gone_in (rows_of l.words) l.places) ≡ false)
-
-abbrev pub decreases-loop-i : goal.decreases-loop-i
-decreases-loop-i l = l.n - l.i

@@ -5,7 +5,7 @@ use Rattle.rules.specs.Rows.{none}
 use Rattle.rules.specs.Words.{table_of}
 use Rattle.laws.proofs.Words.{next-doc-in}
 use Rattle.laws.proofs.Accepted.{replace-relies}
-use Rattle.replaces.proofs.Judges.{examined}
+use Rattle.replaces.proofs.Gaps.{gaps-begin}
 use Rattle.replaces.proofs.Named.{place-asks, name-asks, end-asks, replaced-words}
 use Rattle.replaces.proofs.go_on.Goals as goal
 
@@ -15,7 +15,8 @@ place_before-at-requires c = let w : (table_of c.args.words.now).next_doc ≤ no
 
 pub close_gaps-k-requires : goal.close_gaps-k-requires
 close_gaps-k-requires c = let w : (table_of c.args.words.now).next_doc ≤ none = omega (arith, c.slice_known-1.given 1, next-doc-in c.args.words.now) in
-    (examined _ _ c.requires, w, (replace-relies _ _ c.requires).doc, omega (arith, c.place_before-at.ensures.0, c.row_count-n.ensures), c.place_before-at.ensures.1)
+    let f = replace-relies c.args.words.now _ c.requires in
+    (f.sound, w, gaps-begin c.args.words.now f.sound w f.doc _ (omega (arith, c.place_before-at.ensures.0, c.row_count-n.ensures)) _ _ c.place_before-at.ensures.1 c.next_document-m.ensures)
 
 pub put_document-requires : goal.put_document-requires
 put_document-requires c = let w : (table_of c.args.words.now).next_doc ≤ none = omega (arith, c.slice_known-1.given 1, next-doc-in c.args.words.now) in

@@ -1,17 +1,14 @@
 -- The goals of `replaces::judge` that want a word.
+use Rattle.base.proofs.Refused.{handed-on}
 use Rattle.rules.specs.Calls.{refusals}
-use Rattle.asks.proofs.Judged.{not_there, not-shown, shown-there}
+use Rattle.asks.proofs.Judged.{sight-refused, sight-fine}
 use Rattle.replaces.specs.Answers.{number_rungs}
 use Rattle.replaces.proofs.judge.Goals as goal
 
-pub returns-in-Refused : goal.returns-in-Refused
+pub returns-in_err-judge_sight : goal.returns-in_err-judge_sight
 unfolding refusals
-returns-in-Refused c = not_there c.args.words.now c.requires _ (number_rungs c.args.words.now) _ c.seen.ensures _ c.in-Refused.is
+returns-in_err-judge_sight c = rw (handed-on _ _ c.from_residual.ensures.1) (sight-refused c.args.words.now c.args.d.0 (number_rungs c.args.words.now) _ _ c.judge_sight.ensures c.in_err-judge_sight.was)
 
-pub returns-in-Hidden : goal.returns-in-Hidden
+pub returns : goal.returns
 unfolding refusals
-returns-in-Hidden c = not-shown c.args.words.now c.requires _ (number_rungs c.args.words.now) _ c.seen.ensures _ _ c.in-Hidden.is
-
-pub returns-in-Visible : goal.returns-in-Visible
-unfolding refusals
-returns-in-Visible c = shown-there c.args.words.now c.requires _ (number_rungs c.args.words.now) _ c.seen.ensures _ c.in-Visible.is c.judge_number.result c.judge_number.ensures
+returns c = sight-fine c.args.words.now c.args.d.0 (number_rungs c.args.words.now) _ _ c.judge_sight.ensures c.in_ok-judge_sight.was _ c.judge_number.ensures

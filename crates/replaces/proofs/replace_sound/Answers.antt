@@ -1,10 +1,11 @@
 -- The goals of `replaces::replace_sound` that want a word.
+use Rattle.base.proofs.Refused.{handed-on}
 use Rattle.sound.proofs.Checks.{judged-fine, judged-refused}
 use Rattle.replaces.proofs.Judges.{replace-given}
 use Rattle.replaces.proofs.replace_sound.Goals as goal
 
-pub returns-in-No : goal.returns-in-No
-returns-in-No c = judged-refused _ _ c.judge.ensures _ c.in-No.is
+pub returns-in_err-judge : goal.returns-in_err-judge
+returns-in_err-judge c = rw (handed-on _ _ c.from_residual.ensures.1) (judged-refused _ _ c.judge.ensures _ c.in_err-judge.was)
 
-pub returns-in-Sound : goal.returns-in-Sound
-returns-in-Sound c = replace-given c.args.words.now _ (judged-fine _ _ c.judge.ensures c.in-Sound.is) _ _ c.go_on.ensures.0 c.go_on.ensures.1
+pub returns : goal.returns
+returns c = replace-given c.args.words.now _ (judged-fine _ _ c.judge.ensures _ c.in_ok-judge.was) _ _ c.go_on.ensures.0 c.go_on.ensures.1

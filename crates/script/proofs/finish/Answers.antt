@@ -7,5 +7,5 @@ use Rattle.script.proofs.finish.Goals as goal
 
 pub returns : goal.returns
 returns g c =
-    let last = finish-prints _ _ _ _ _ _ _ _ _ c.in-Printed.ensures in
+    let last = finish-prints _ _ _ _ _ _ _ _ _ c.in-Some.ensures in
     on_ok_weaker c.print.result (λ p. λ room. subst (Appends _ _) last p) c.print.ensures

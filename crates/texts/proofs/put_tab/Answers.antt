@@ -5,7 +5,7 @@ use Rattle.texts.proofs.Enough.{small, room_for, written-short}
 use Rattle.texts.proofs.put_tab.Goals as goal
 
 pub put_answer-requires : goal.put_answer-requires
-put_answer-requires c = room_for (Replies.Tab c.args.d c.args.f c.args.p c.args.s) _ _ (omega (arith, c.well_formed.1.1.0), omega (arith, c.well_formed.1.1.1.0), small _ c.ranges.p, small _ c.ranges.s) c.requires
+put_answer-requires c = room_for (Replies.Tab c.args.d c.args.f c.args.progress) _ _ (omega (arith, c.well_formed.1.1.0), omega (arith, c.well_formed.1.1.1.0), omega arith, omega arith) c.requires
 
 pub returns : goal.returns
-returns c = written-short (Replies.Tab c.args.d c.args.f c.args.p c.args.s) _ _ _ _ (omega (arith, c.well_formed.1.1.0), omega (arith, c.well_formed.1.1.1.0), small _ c.ranges.p, small _ c.ranges.s) c.put_answer.ensures
+returns c = written-short (Replies.Tab c.args.d c.args.f c.args.progress) _ _ _ _ (omega (arith, c.well_formed.1.1.0), omega (arith, c.well_formed.1.1.1.0), omega arith, omega arith) c.put_answer.ensures
