@@ -21,32 +21,27 @@ use Rattle.laws.proofs.Tree.{place_is, tree_of}
 use Rattle.laws.proofs.Climb.{sees-out}
 use Rattle.windows.proofs.Ends.{cleared-alone}
 use Rattle.sound.specs.Check.{Settles, Judged}
-use Rattle.sound.specs.declared.Check.{Check}
-use Rattle.sound.specs.declared.Check.TheVariants.{Sound as Fine, No}
+use Rattle.std.specs.Prelude.{Result, Ok, Err}
 use Rattle.sound.specs.Survey.{alone?, survey_of}
-use Rattle.sound.specs.declared.Survey.{Survey}
-use Rattle.sound.specs.declared.Survey.TheVariants.{No as Survey-as-No}
+use Rattle.sound.specs.declared.Windows.{Windows}
 use Rattle.sound.proofs.Alone.{alone-root}
 use Rattle.sound.proofs.Checks.{survey-given}
-use Rattle.navigates.specs.Answers.{sight_rungs, room_rungs}
+use Rattle.asks.proofs.Judged.{sight-refused, sight-fine}
+use Rattle.asks.specs.Answers.{sight_rungs}
+use Rattle.navigates.specs.Answers.{room_rungs}
 
 -- THE TABLE
 
--- Where no line is left none is given.
-pub none_left : NoneGiven []
-unfolding NoneGiven
-none_left = tt
-
 module _ (words : List ℕ) (b : Bool) where
-  pub room-full : b ≡ true → Settles (room_rungs b words) (No Full)
+  pub room-full : b ≡ true → Settles (room_rungs b words) (Err Full)
   unfolding Given
   room-full t = inl (t, refl, refl)
 
-  pub room-used : (d : ℕ) → b ≡ false → d ≡ (table_of words).next_doc → d ≡ none → Settles (room_rungs b words) (No UsedUp)
+  pub room-used : (d : ℕ) → b ≡ false → d ≡ (table_of words).next_doc → d ≡ none → Settles (room_rungs b words) (Err UsedUp)
   unfolding Given
   room-used d f h n = inr (f, inl (eq-eqb _ _ (sym h ∙ n), refl, refl))
 
-  pub room-left : (d : ℕ) → b ≡ false → d ≡ (table_of words).next_doc → (d ≡ none → ⊥) → Settles (room_rungs b words) Fine
+  pub room-left : (d : ℕ) → b ≡ false → d ≡ (table_of words).next_doc → (d ≡ none → ⊥) → Settles (room_rungs b words) (Ok tt)
   unfolding NoneGiven
   room-left d f h n = (f, (ne_eqb _ _ (λ z. n (h ∙ z)), tt))
 
@@ -56,24 +51,15 @@ module _ (words : List ℕ) (d : ℕ) where
   window = root_at (rows_of words) (place (rows_of words) d)
 
   -- Both parts are the table.
-  settles-all : (k : Check) → NoneGiven (sight_rungs words d) → Settles (room_rungs (full words (cleared window (rows_of words))) words) k → Judged (Call.Navigate words d) k
+  pub room-settles : (u : Result (Unit {0}) Refusal) (done : Unit {0}) → Settles (sight_rungs words d) u → u ≡ Ok done → (b : Bool) → b ≡ full words (cleared window (rows_of words)) →
+      (k : Result (Unit {0}) Refusal) → Settles (room_rungs b words) k → Judged (Call.Navigate words d) k
   unfolding refusals
-  settles-all Fine h g = none_more (sight_rungs words d) _ h g
-  settles-all (No r) h g = given-after (number_of r) (carried_by r) (sight_rungs words d) _ h g
+  room-settles u done j f b e k g =
+      sight-fine words d (room_rungs (full words (cleared window (rows_of words))) words) u done j f k (subst (λ b. Settles (room_rungs b words) k) e g)
 
-  pub room-settles : NoneGiven (sight_rungs words d) → (b : Bool) → b ≡ full words (cleared window (rows_of words)) → (k : Check) → Settles (room_rungs b words) k → Judged (Call.Navigate words d) k
-  room-settles h b e k g = settles-all k h (subst (λ b. Settles (room_rungs b words) k) e g)
-
-  module _ (k : Check) (j : Settles (sight_rungs words d) k) where
-    pub sight-refused : (r : Refusal) → k ≡ No r → Judged (Call.Navigate words d) (No r)
-    unfolding refusals
-    sight-refused r e = given-more (number_of r) (carried_by r) (sight_rungs words d) _ (subst (Settles (sight_rungs words d)) e j)
-
-    pub sight-outcome : (r : Refusal) → k ≡ No r → outcome (Call.Navigate words d) ≡ record { answer = Answer.refuses (number_of r) (carried_by r); lent = words ∷ [] }
-    sight-outcome r e = outcome-refused (Call.Navigate words d) (number_of r) (carried_by r) (sight-refused r e)
-
-    pub sight-fine : k ≡ Fine → NoneGiven (sight_rungs words d)
-    sight-fine e = subst (Settles (sight_rungs words d)) e j
+  pub sight-judged : (k : Result (Unit {0}) Refusal) (r : Refusal) → Settles (sight_rungs words d) k → k ≡ Err r → Judged (Call.Navigate words d) (Err r)
+  unfolding refusals
+  sight-judged k r = sight-refused words d (room_rungs (full words (cleared window (rows_of words))) words) k r
 
   -- The document is visible.
   pub sight-sees : NoneGiven (sight_rungs words d) → So (visible (rows_of words) d)
@@ -91,7 +77,7 @@ module _ (words : List ℕ) (d : ℕ) where
 
 -- THE OUTCOME
 
-pub navigate-refused : (words : List ℕ) (d : ℕ) (k : Survey) (r : Refusal) → k ≡ survey_of words → k ≡ Survey-as-No r → outcome (Call.Navigate words d) ≡ record { answer = Answer.refuses (number_of r) (carried_by r); lent = words ∷ [] }
+pub navigate-refused : (words : List ℕ) (d : ℕ) (k : Result Windows Refusal) (r : Refusal) → k ≡ survey_of words → k ≡ Err r → outcome (Call.Navigate words d) ≡ record { answer = Answer.refuses (number_of r) (carried_by r); lent = words ∷ [] }
 unfolding refusals
 navigate-refused words d k r e f = outcome-refused (Call.Navigate words d) (number_of r) (carried_by r) (survey-given words _ k r e f)
 

@@ -2,7 +2,7 @@
 use Prim.Native.Nat.{ℕ, ◌+◌, ◌≤◌, ◌<◌}
 use mathlib.Core.Bool.{Bool, false, So, cond}
 use mathlib.Core.List.{List}
-use mathlib.Core.Path.{◌≡◌, sym, ap, subst, ◌∙◌}
+use mathlib.Core.Path.{◌≡◌, refl, sym, ap, subst, ◌∙◌}
 use native.Mathlib.Omega.{arith}
 use lib.ListN.{length}
 use borrow.Author.Tests.{eq-eqb}
@@ -19,10 +19,12 @@ use Rattle.laws.proofs.Climb.{visible-out, sees-out}
 use Rattle.windows.proofs.Window.{WideRows, wide_rows}
 use Rattle.reads.specs.Within.{Before, Within}
 use Rattle.sound.specs.Check.{Examined, Settles, Judged}
-use Rattle.sound.specs.declared.Check.{Check}
+use Rattle.std.specs.Prelude.{Result, Ok}
+use Rattle.base.specs.declared.Refusal.{Refusal}
 use Rattle.sound.proofs.Checks.{examined-sound, examined-fits}
 use Rattle.packs.specs.Packing.{Over}
-use Rattle.navigates.specs.Answers.{sight_rungs, room_rungs}
+use Rattle.asks.specs.Answers.{sight_rungs}
+use Rattle.navigates.specs.Answers.{room_rungs}
 use Rattle.navigates.proofs.Judges.{sight-sees, room-settles}
 use Rattle.navigates.proofs.Search.{none_before}
 
@@ -65,8 +67,8 @@ module _ (words : List ℕ) (d : ℕ) (e : Examined words) (h : NoneGiven (sight
           (e, word, v.0, subst (λ r. some_below start (upcoming_in r rows) ≡ false) (sym er) v.1)
 
       -- What is judged of the room is judged of the call.
-      pub leave-judged : (b : Bool) → b ≡ full words (cleared root rows) → (k : Check) → Settles (room_rungs b words) k → Judged (Call.Navigate words d) k
-      leave-judged b f k = room-settles words d h b (f ∙ ap (λ r. full words (cleared r rows)) leave-root) k
+      pub leave-judged : (b : Bool) → b ≡ full words (cleared root rows) → (k : Result (Unit {0}) Refusal) → Settles (room_rungs b words) k → Judged (Call.Navigate words d) k
+      leave-judged b f k = room-settles words d (Ok tt) tt h refl b (f ∙ ap (λ r. full words (cleared r rows)) leave-root) k
 
 -- What is closed of the root frame's window is closed of the document's.
 pub closed-window : (old : List ℕ) (d root k : ℕ) (new : List ℕ) → root ≡ root_at (rows_of old) (place (rows_of old) d) → Over (cleared root (rows_of old)) old k new →

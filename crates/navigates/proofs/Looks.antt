@@ -11,8 +11,7 @@ use Rattle.base.specs.declared.RowPlace.{RowPlace}
 use Rattle.rules.specs.Rows.{Row, none, frame_at, parent_at, is_shown, is_doc}
 use Rattle.rules.specs.Windows.{root_at}
 use Rattle.reads.specs.Found.{found_below}
-use Rattle.reads.specs.declared.Found.{Found}
-use Rattle.reads.specs.declared.Found.TheVariants.{At, Nothing}
+use Rattle.std.specs.Prelude.{Option, None, Some}
 use Rattle.reads.proofs.Scans.{found_at, found_nothing}
 use Rattle.packs.specs.Packing.{parent_kept}
 use Rattle.navigates.specs.declared.Side.{Side}
@@ -21,12 +20,12 @@ use Rattle.navigates.specs.declared.Sides.{Sides}
 use Rattle.navigates.specs.Sides.{side_if, is_outside, doc_side, side_of, recalled, Turned}
 
 -- By the row that holds the document.
-module _ (r : ℕ) (rows : List Row) (k d : ℕ) (f : Found) (scan : f ≡ found_below (is_doc rows d) k) where
-  pub doc-found : (q : RowPlace) (g : ℕ) (s : Side) → f ≡ At q → g ≡ root_at rows q.0 → s ≡ side_if (eqb g r) → s ≡ doc_side r rows k d
+module _ (r : ℕ) (rows : List Row) (k d : ℕ) (f : Option RowPlace) (scan : f ≡ found_below (is_doc rows d) k) where
+  pub doc-found : (q : RowPlace) (g : ℕ) (s : Side) → f ≡ Some q → g ≡ root_at rows q.0 → s ≡ side_if (eqb g r) → s ≡ doc_side r rows k d
   unfolding doc_side
   doc-found q g s e h t = let a = found_at (is_doc rows d) k q (sym scan ∙ e) in t ∙ rw (a.0, a.1, h) refl
 
-  pub doc-lost : f ≡ Nothing → Lost ≡ doc_side r rows k d
+  pub doc-lost : f ≡ None → Lost ≡ doc_side r rows k d
   unfolding doc_side
   doc-lost e = rw (found_nothing (is_doc rows d) k (sym scan ∙ e)) refl
 

@@ -18,21 +18,23 @@ use Rattle.laws.proofs.Frames.{reach-in}
 use Rattle.windows.proofs.Roots.{root-frame}
 use Rattle.windows.proofs.Window.{WideRows}
 use Rattle.reads.specs.Found.{found_below}
-use Rattle.reads.specs.declared.Found.{Found}
-use Rattle.reads.specs.declared.Found.TheVariants.{At, Nothing}
-use Rattle.reads.proofs.Scans.{found-own}
+use Rattle.std.specs.Prelude.{Option}
+use Rattle.std.specs.Option.{is_some}
+use Rattle.reads.proofs.Scans.{found-own, step-found}
 use Rattle.sound.specs.Quick.{comes_in}
-use Rattle.sound.proofs.Calm.{own-after, own_first}
 use Rattle.laws.proofs.Central.{shown-one}
 use Rattle.sound.proofs.Quick.{upcoming-comes, comes-upcoming, comes_of, comes-whose}
 
 -- Where it may start, by whether the row is a step.
-module _ (rows : List Row) (i f : ℕ) (r : Found) (e : f ≡ frame_at rows i) (g : r ≡ found_below (in_frame rows f) i) where
-  pub starts-after : (j : RowPlace) → r ≡ At j → i + 1 ≡ cond (is_step rows i) (i + 1) 0
-  starts-after j h = rw (own-after rows i r (found-own rows i i f r e g) j h).step refl
+module _ (rows : List Row) (i f : ℕ) (r : Option RowPlace) (b : Bool) (e : f ≡ frame_at rows i) (g : r ≡ found_below (in_frame rows f) i) (s : b ≡ is_some r) where
+  step-told : b ≡ is_step rows i
+  step-told = step-found (frame_at rows) i r b (found-own rows i i f r e g) s
 
-  pub starts_first : r ≡ Nothing → 0 ≡ cond (is_step rows i) (i + 1) 0
-  starts_first h = rw (own_first rows i r (found-own rows i i f r e g) h) refl
+  pub starts-after : b ≡ true → i + 1 ≡ cond (is_step rows i) (i + 1) 0
+  starts-after t = rw (sym step-told ∙ t) refl
+
+  pub starts_first : b ≡ false → 0 ≡ cond (is_step rows i) (i + 1) 0
+  starts_first h = rw (sym step-told ∙ h) refl
 
 module _ (rows : List Row) {a b : ℕ} (s : WideRows rows a b) where
   -- Up to a shown step no step of its window is upcoming.

@@ -4,13 +4,23 @@ use mathlib.Core.Bool.{Bool, true, false}
 use mathlib.Core.List.{List, [], ◌∷◌}
 use mathlib.Core.Path.{◌≡◌, refl, sym, ◌∙◌}
 use Rattle.rules.specs.Below.{some_below}
-use Rattle.rules.specs.Rows.{Row, row_at, frame_at}
+use Rattle.rules.specs.Rows.{Row, row_at, frame_at, in_frame}
 use Rattle.rules.specs.Steps.{same}
 use Rattle.rules.specs.Words.{put, rows_of}
-use Rattle.rows.specs.Readable.{read_of}
-use Rattle.rows.specs.declared.Row.{Row as Read}
+use Rattle.std.specs.Prelude.{Option, None, Some}
+use Rattle.std.specs.Option.{is_some}
+use Rattle.base.specs.declared.RowPlace.{RowPlace}
+use Rattle.reads.specs.Found.{found_below}
+use Rattle.reads.proofs.Scans.{found-own, some-found, none_found}
+use Rattle.reads.specs.Within.{read_of}
+use Rattle.base.specs.declared.Row.{Row as Read}
 use Rattle.packs.specs.Packing.{parent_kept, ended}
 use Rattle.navigates.specs.Packing.{joins, settled}
+
+-- Whether one of the rows before k is of a row's frame, by a look for it.
+pub framed-told : (rows : List Row) (i k f : ℕ) (r : Option RowPlace) (b : Bool) → f ≡ frame_at rows i → r ≡ found_below (in_frame rows f) k → b ≡ is_some r → b ≡ some_below k (same (frame_at rows) i)
+framed-told rows i k f None b e g s = s ∙ none_found (same (frame_at rows) i) k None (found-own rows i k f None e g) refl
+framed-told rows i k f (Some q) b e g s = s ∙ some-found (same (frame_at rows) i) k (Some q) q (found-own rows i k f (Some q) e g) refl
 
 -- A row joins the rows before k, or not.
 module _ (rows : List Row) (k i : ℕ) (b : Bool) (frame : b ≡ some_below k (same (frame_at rows) i)) where

@@ -18,60 +18,42 @@ ghost use Rattle.reads.specs.Within.{Before, Within};
 ghost use Rattle.sound.specs.Check.{Examined, Settles, Judged};
 ghost use Rattle.sound.specs.Survey.{alone?, Located};
 ghost use Rattle.packs.specs.Packing.{Over};
-ghost use Rattle.navigates.specs.Answers.{navigated_is, sight_rungs, room_rungs};
+ghost use Rattle.asks.specs.Answers.{sight_rungs};
+ghost use Rattle.navigates.specs.Answers.{navigated_is, room_rungs};
 ghost use Rattle.navigates.specs.Packing.{joins, removal_end, Ends, settled};
-ghost use Rattle.navigates.specs.Sides.{side_if, is_outside, doc_side, side_of, recalled, Recalls, Turned};
+ghost use Rattle.navigates.specs.Sides.{side_if, doc_side, side_of, recalled, Recalls, Turned};
 
-use asks::Sight;
-use base::{DocNo, FrameNo, Refusal, RowPlace};
-use reads::{Found, NONE};
-use sound::{Check, Stand, Survey};
+use base::{DocNo, FrameNo, Refusal, Row, RowPlace};
+use sound::{Stand, Windows};
 
 // Whether no row is left after the removal: only where nothing goes and all rows are in use.
 fn is_full(words: &[u32], s: Stand) -> bool
     requires { Located words.now s }
     ensures { result ≡ full words.now (cleared_all (rows_of words.now)) }
 {
-    if rows::row_count(words) < rows::capacity(words) {
-        return false;
-    }
-    s.steps == s.position
-}
-
-// Refusals 4 and 5, of a sound record.
-fn judge_sight(words: &[u32], from: DocNo) -> Check
-    requires { Examined words.now }
-    ensures { Settles (sight_rungs words.now from.0) result }
-{
-    match asks::seen(words, from) {
-        Sight::Refused(r) => Check::No(r),
-        Sight::Hidden(h, _) => Check::No(Refusal::Hidden(h)),
-        Sight::Visible(_) => Check::Sound,
-    }
+    rows::capacity(words) <= rows::row_count(words) && s.steps == s.position
 }
 
 // Refusals 7 and 8, where no row is left after the removal or some is.
-fn judge_room(words: &[u32], filled: bool) -> Check
+fn judge_room(words: &[u32], filled: bool) -> Result<(), Refusal>
     ensures { Settles (room_rungs filled words.now) result }
 {
     if filled {
-        return Check::No(Refusal::Full);
+        return Err(Refusal::Full);
     }
-    if rows::next_document(words).0 == NONE {
-        return Check::No(Refusal::UsedUp);
+    if rows::next_document(words) == DocNo::NONE {
+        return Err(Refusal::UsedUp);
     }
-    Check::Sound
+    Ok(())
 }
 
 // Whether Navigate is refused, and how, of a sound record that stands so.
-fn judge(words: &[u32], s: Stand, from: DocNo) -> Check
+fn judge(words: &[u32], s: Stand, from: DocNo) -> Result<(), Refusal>
     requires { Located words.now s }
     ensures { Judged (Call.Navigate words.now from.0) result }
 {
-    match judge_sight(words, from) {
-        Check::No(r) => Check::No(r),
-        Check::Sound => judge_room(words, is_full(words, s)),
-    }
+    asks::judge_sight(words, from)?;
+    judge_room(words, is_full(words, s))
 }
 
 // Whether one of the first k rows is of a row's frame.
@@ -79,10 +61,7 @@ fn frame_before(words: &[u32], at: RowPlace, k: usize) -> bool
     requires { Within words.now at.0 × (k ≤ at.0) }
     ensures { result ≡ some_below k (same (frame_at (rows_of words.now)) at.0) }
 {
-    match reads::latest_of(words, RowPlace(k), reads::frame(words, at)) {
-        Found::At(_) => true,
-        Found::Nothing => false,
-    }
+    reads::latest_of(words, RowPlace(k), reads::frame(words, at)).is_some()
 }
 
 // Whether a row stays, where the first k rows are those kept so far: it is the first of its frame among them, and it has no parent or that is one of them.
@@ -90,10 +69,7 @@ fn row_joins(words: &[u32], at: RowPlace, k: usize) -> bool
     requires { Within words.now at.0 × (k ≤ at.0) }
     ensures { result ≡ joins (rows_of words.now) k at.0 }
 {
-    if frame_before(words, at, k) {
-        return false;
-    }
-    packs::parent_kept(words, at, k)
+    !frame_before(words, at, k) && packs::parent_kept(words, at, k)
 }
 
 // A place from which on all rows are upcoming steps: that of the earliest, where no frame begins after it, else the rows' end.
@@ -102,9 +78,10 @@ fn removal_end(words: &[u32], s: Stand) -> RowPlace
     ensures { result.0 ≡ removal_end (rows_of words.now) }
 {
     if s.frames + s.position == s.upcoming.0 {
-        return s.upcoming;
+        s.upcoming
+    } else {
+        RowPlace(rows::row_count(words))
     }
-    RowPlace(rows::row_count(words))
 }
 
 // Removes what goes and closes the gaps: the rows before the first upcoming step stay where they are, and none stays from `end` on. How many rows stay.
@@ -112,13 +89,10 @@ fn close_gaps(words: &mut [u32], start: RowPlace, end: RowPlace) -> usize
     requires { Examined words.old × So (alone? (rows_of words.old)) × ((table_of words.old).next_doc ≤ none) × (start.0 ≡ earliest (upcoming (rows_of words.old)) (length (rows_of words.old))) × Ends (rows_of words.old) end.0 }
     ensures { Over (cleared_all (rows_of words.old)) words.old result words.new }
 {
-    let last = end.0;
     let mut k = start.0;
-    let mut i = start.0;
-    while i < last {
+    for i in start.0..end.0 {
         let stays = row_joins(words, RowPlace(i), k);
         k = packs::keep_row(words, RowPlace(i), k, stays);
-        i += 1;
     }
     k
 }
@@ -128,9 +102,13 @@ fn settle(words: &mut [u32], at: RowPlace, k: usize, n: usize, d: DocNo, next: F
     requires { Within words.old at.0 × (k < capacity words.old) × (n ≤ capacity words.old) × (d.0 < none) }
     ensures { words.new ≡ settled words.old at.0 k n d.0 next.0 }
 {
-    let r = rows::read_row(words, at);
+    let comes = Row {
+        document: d,
+        shown: 1,
+        ..reads::row(words, at)
+    };
     writes::put_flag(words, at, 0);
-    writes::put_row(words, RowPlace(k), d, r.frame, r.parent, 1);
+    writes::put_row(words, RowPlace(k), comes);
     packs::end_rows(words, k + 1, n, DocNo(d.0 + 1), next);
 }
 
@@ -149,22 +127,13 @@ fn go_from(words: &mut [u32], s: Stand, from: DocNo) -> DocNo
     d
 }
 
-// What Navigate answers: the new document.
-#[derive(Clone, Copy)]
-pub enum Navigated {
-    Arrived(DocNo),
-    Refused(Refusal),
-}
-
-// Navigates in a sound record that stands so.
-fn navigate_from(words: &mut [u32], s: Stand, from: DocNo) -> Navigated
+// Navigates in a sound record that stands so. The new document.
+fn navigate_from(words: &mut [u32], s: Stand, from: DocNo) -> Result<DocNo, Refusal>
     requires { Located words.old s }
     ensures { outcome (Call.Navigate words.old from.0) ≡ record { answer = navigated_is result; lent = words.new ∷ [] } }
 {
-    match judge(words, s, from) {
-        Check::No(r) => Navigated::Refused(r),
-        Check::Sound => Navigated::Arrived(go_from(words, s, from)),
-    }
+    judge(words, s, from)?;
+    Ok(go_from(words, s, from))
 }
 
 // ONE WINDOW OF SEVERAL
@@ -174,9 +143,10 @@ fn search_start(words: &[u32], at: RowPlace) -> RowPlace
     requires { Within words.now at.0 }
     ensures { result.0 ≡ cond (is_step (rows_of words.now) at.0) (at.0 + 1) 0 }
 {
-    match reads::latest_of(words, at, reads::frame(words, at)) {
-        Found::At(_) => RowPlace(at.0 + 1),
-        Found::Nothing => RowPlace(0),
+    if reads::latest_of(words, at, reads::frame(words, at)).is_some() {
+        RowPlace(at.0 + 1)
+    } else {
+        RowPlace(0)
     }
 }
 
@@ -185,10 +155,7 @@ fn is_first_gap(words: &[u32], at: RowPlace, root: FrameNo) -> bool
     requires { Examined words.now × ((table_of words.now).next_doc ≤ none) × (at.0 < length (rows_of words.now)) × (some_below at.0 (upcoming_in root.0 (rows_of words.now)) ≡ false) }
     ensures { result ≡ upcoming_in root.0 (rows_of words.now) at.0 }
 {
-    if reads::is_shown(words, at) {
-        return false;
-    }
-    sound::comes_in(words, at, root)
+    !reads::is_shown(words, at) && sound::comes_in(words, at, root)
 }
 
 // The first upcoming step of a window, where none stands before a place; the rows' end where there is none.
@@ -197,12 +164,10 @@ fn first_gap(words: &[u32], root: FrameNo, start: RowPlace) -> RowPlace
     ensures { result.0 ≡ earliest (upcoming_in root.0 (rows_of words.now)) (length (rows_of words.now)) }
 {
     let n = rows::row_count(words);
-    let mut i = start.0;
-    while i < n {
+    for i in start.0..n {
         if is_first_gap(words, RowPlace(i), root) {
             return RowPlace(i);
         }
-        i += 1;
     }
     RowPlace(n)
 }
@@ -213,14 +178,11 @@ fn is_full_beside(words: &[u32], root: FrameNo, gap: RowPlace) -> bool
     ensures { result ≡ full words.now (cleared root.0 (rows_of words.now)) }
 {
     let n = rows::row_count(words);
-    if n < rows::capacity(words) {
-        return false;
-    }
-    gap.0 == n
+    rows::capacity(words) <= n && gap.0 == n
 }
 
 // Where a row stands to a window, as the rows kept so far tell: within it, outside it, or beneath a row that went.
-#[derive(Clone, Copy)]
+#[derive(Clone, Copy, PartialEq, Eq)]
 enum Side {
     Within,
     Outside,
@@ -248,8 +210,8 @@ fn doc_side(words: &[u32], k: usize, root: FrameNo, d: DocNo) -> Side
     ensures { result ≡ doc_side root.0 (rows_of words.now) k d.0 }
 {
     match reads::find_below(words, RowPlace(k), d) {
-        Found::At(above) => side_if(reads::root_of(words, above).0 == root.0),
-        Found::Nothing => Side::Lost,
+        Some(above) => side_if(reads::root_of(words, above) == root),
+        None => Side::Lost,
     }
 }
 
@@ -259,16 +221,16 @@ fn side_of(words: &[u32], at: RowPlace, k: usize, root: FrameNo, known: Sides) -
     ensures { result ≡ side_of root.0 (rows_of words.now) k at.0 }
 {
     let up = reads::parent(words, at);
-    if up.0 == NONE {
-        return side_if(reads::frame(words, at).0 == root.0);
+    if up == DocNo::NONE {
+        return side_if(reads::frame(words, at) == root);
     }
-    if up.0 == known.within.0 {
+    if up == known.within {
         return Side::Within;
     }
-    if up.0 == known.outside.0 {
+    if up == known.outside {
         return Side::Outside;
     }
-    if up.0 == known.missed.0 {
+    if up == known.missed {
         return Side::Lost;
     }
     doc_side(words, k, root, up)
@@ -278,36 +240,19 @@ fn side_of(words: &[u32], at: RowPlace, k: usize, root: FrameNo, known: Sides) -
 fn recall(known: Sides, up: DocNo, side: Side) -> Sides
     ensures { result ≡ recalled known up side }
 {
-    let within = known.within;
-    let outside = known.outside;
-    let missed = known.missed;
     match side {
         Side::Within => Sides {
             within: up,
-            outside,
-            missed,
+            ..known
         },
         Side::Outside => Sides {
-            within,
             outside: up,
-            missed,
+            ..known
         },
         Side::Lost => Sides {
-            within,
-            outside,
             missed: up,
+            ..known
         },
-    }
-}
-
-// Whether a row stands outside.
-fn is_outside(side: Side) -> bool
-    ensures { result ≡ is_outside side }
-{
-    match side {
-        Side::Within => false,
-        Side::Outside => true,
-        Side::Lost => false,
     }
 }
 
@@ -324,14 +269,16 @@ fn row_turn(words: &[u32], at: RowPlace, k: usize, root: FrameNo, known: Sides) 
     ensures { Turned root.0 (rows_of words.now) k at.0 known result }
 {
     if reads::is_shown(words, at) {
-        let stays = packs::parent_kept(words, at, k);
-        return Turn { stays, known };
+        return Turn {
+            stays: packs::parent_kept(words, at, k),
+            known,
+        };
     }
-    let up = reads::parent(words, at);
     let side = side_of(words, at, k, root, known);
-    let stays = is_outside(side);
-    let known = recall(known, up, side);
-    Turn { stays, known }
+    Turn {
+        stays: side == Side::Outside,
+        known: recall(known, reads::parent(words, at), side),
+    }
 }
 
 // Removes what goes from the first upcoming step of a window on, and closes the gaps. How many rows stay.
@@ -341,17 +288,15 @@ fn close_beside(words: &mut [u32], root: FrameNo, gap: RowPlace) -> usize
 {
     let n = rows::row_count(words);
     let mut known = Sides {
-        within: DocNo(NONE),
-        outside: DocNo(NONE),
-        missed: DocNo(NONE),
+        within: DocNo::NONE,
+        outside: DocNo::NONE,
+        missed: DocNo::NONE,
     };
     let mut k = gap.0;
-    let mut i = gap.0;
-    while i < n {
+    for i in gap.0..n {
         let t = row_turn(words, RowPlace(i), k, root, known);
         k = packs::keep_row(words, RowPlace(i), k, t.stays);
         known = t.known;
-        i += 1;
     }
     k
 }
@@ -370,38 +315,33 @@ fn go_beside(words: &mut [u32], root: FrameNo, gap: RowPlace, from: DocNo) -> Do
     d
 }
 
-// Navigates from a visible document of one of several windows.
-fn leave_beside(words: &mut [u32], from: DocNo) -> Navigated
+// Navigates from a visible document of one of several windows. The new document.
+fn leave_beside(words: &mut [u32], from: DocNo) -> Result<DocNo, Refusal>
     requires { Examined words.old × NoneGiven (sight_rungs words.old from.0) }
     ensures { outcome (Call.Navigate words.old from.0) ≡ record { answer = navigated_is result; lent = words.new ∷ [] } }
 {
     let at = packs::place_before(words, rows::row_count(words), from);
     let root = reads::root_of(words, at);
     let gap = first_gap(words, root, search_start(words, at));
-    match judge_room(words, is_full_beside(words, root, gap)) {
-        Check::No(r) => Navigated::Refused(r),
-        Check::Sound => Navigated::Arrived(go_beside(words, root, gap, from)),
-    }
+    judge_room(words, is_full_beside(words, root, gap))?;
+    Ok(go_beside(words, root, gap, from))
 }
 
-// Navigates in a sound record of several windows.
-fn navigate_beside(words: &mut [u32], from: DocNo) -> Navigated
+// Navigates in a sound record of several windows. The new document.
+fn navigate_beside(words: &mut [u32], from: DocNo) -> Result<DocNo, Refusal>
     requires { Examined words.old }
     ensures { outcome (Call.Navigate words.old from.0) ≡ record { answer = navigated_is result; lent = words.new ∷ [] } }
 {
-    match judge_sight(words, from) {
-        Check::No(r) => Navigated::Refused(r),
-        Check::Sound => leave_beside(words, from),
-    }
+    asks::judge_sight(words, from)?;
+    leave_beside(words, from)
 }
 
-// Navigates from a document.
-pub fn navigate(words: &mut [u32], from: DocNo) -> Navigated
+// Navigates from a document. The new document.
+pub fn navigate(words: &mut [u32], from: DocNo) -> Result<DocNo, Refusal>
     ensures { outcome (Call.Navigate words.old from.0) ≡ record { answer = navigated_is result; lent = words.new ∷ [] } }
 {
-    match sound::locate(words) {
-        Survey::No(r) => Navigated::Refused(r),
-        Survey::Stands(s) => navigate_from(words, s, from),
-        Survey::Several => navigate_beside(words, from),
+    match sound::locate(words)? {
+        Windows::One(s) => navigate_from(words, s, from),
+        Windows::Several => navigate_beside(words, from),
     }
 }

@@ -9,16 +9,17 @@ use Rattle.navigates.proofs.Beside.{closing-starts, closing-within, closing-asks
 use Rattle.navigates.proofs.close_beside.Goals as goal
 
 pub loop-i-init : goal.loop-i-init
-loop-i-init c = (omega arith, omega (arith, c.row_count-n.ensures, c.requires.2, (earliest-out (upcoming_in c.args.root.0 (rows_of c.args.words.now)) (length (rows_of c.args.words.now))).within), closing-starts _ c.args.words.now _ c.requires.2 _ refl refl refl)
+loop-i-init c = closing-starts _ c.args.words.now _ c.requires.2 _ refl refl refl
 
 pub row_turn-t-requires : goal.row_turn-t-requires
-row_turn-t-requires c = closing-asks _ c.args.words.now c.requires.0 c.requires.1 _ _ _ _ c.loop-i.invariant.2 (omega (arith, c.row_count-n.ensures))
+row_turn-t-requires c = closing-asks _ c.args.words.now c.requires.0 c.requires.1 _ _ _ _ c.loop-i.invariant (omega (arith, c.row_count-n.ensures))
 
 pub keep_row-k-requires : goal.keep_row-k-requires
-keep_row-k-requires c = closing-within _ c.args.words.now c.requires.0 c.requires.1 _ _ _ _ c.loop-i.invariant.2 (omega (arith, c.row_count-n.ensures))
+keep_row-k-requires c = closing-within _ c.args.words.now c.requires.0 c.requires.1 _ _ _ _ c.loop-i.invariant (omega (arith, c.row_count-n.ensures))
 
 pub loop-i-preserved : goal.loop-i-preserved
-loop-i-preserved c = (omega arith, omega arith, closing-more _ c.args.words.now c.requires.0 c.requires.1 _ _ _ _ c.loop-i.invariant.2 (omega (arith, c.row_count-n.ensures)) _ c.requires.2 (omega arith) _ _ _ c.row_turn-t.ensures c.keep_row-k.ensures)
+loop-i-preserved c = closing-more _ c.args.words.now c.requires.0 c.requires.1 _ _ _ _ c.loop-i.invariant (omega (arith, c.row_count-n.ensures)) _ c.requires.2 (omega arith) _ _ _ c.row_turn-t.ensures c.keep_row-k.ensures
 
 pub returns : goal.returns
-returns c = closing-ends _ c.args.words.now _ _ _ _ _ c.loop-i.invariant.2 c.row_count-n.ensures c.loop-i.invariant.1 (omega arith)
+returns c = let w = (earliest-out (upcoming_in c.args.root.0 (rows_of c.args.words.now)) (length (rows_of c.args.words.now))).within in
+    closing-ends _ c.args.words.now _ _ _ _ _ c.loop-i.invariant c.row_count-n.ensures (omega (arith, w, c.requires.2, c.row_count-n.ensures)) (omega arith)

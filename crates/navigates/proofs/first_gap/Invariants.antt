@@ -1,5 +1,4 @@
 -- What the loops of `navigates::first_gap` keep.
-use Prim.Native.Nat.{◌≤◌, ◌-◌}
 use mathlib.Core.Bool.{false}
 use mathlib.Core.Path.{◌≡◌}
 use Rattle.rules.specs.Below.{some_below}
@@ -8,7 +7,4 @@ use Rattle.rules.specs.Words.{rows_of}
 use Rattle.navigates.proofs.first_gap.Given as goal
 
 abbrev pub invariant-loop-i : goal.invariant-loop-i
-invariant-loop-i l = (l.i ≤ l.n) × (some_below l.i (upcoming_in l.root.0 (rows_of l.words)) ≡ false)
-
-abbrev pub decreases-loop-i : goal.decreases-loop-i
-decreases-loop-i l = l.n - l.i
+invariant-loop-i l = some_below l.i (upcoming_in l.root.0 (rows_of l.words)) ≡ false

@@ -1,4 +1,5 @@
 -- The goals of `navigates::leave_beside` that want a word.
+use Rattle.base.proofs.Refused.{handed-on}
 use Prim.Native.Nat.{◌≤◌}
 use native.Mathlib.Omega.{arith}
 use Rattle.rules.specs.Rows.{none}
@@ -26,12 +27,12 @@ first_gap-gap-requires c = let w : (table_of c.args.words.now).next_doc ≤ none
 
 pub go_beside-requires : goal.go_beside-requires
 go_beside-requires c = let w : (table_of c.args.words.now).next_doc ≤ none = omega (arith, c.slice_known-1.given 1, next-doc-in c.args.words.now) in
-    (c.requires.0, judged-fine _ _ (leave-judged c.args.words.now _ c.requires.0 c.requires.1 w _ _ c.row_count.ensures c.place_before-at.ensures.0 c.place_before-at.ensures.1 _ c.root_of-root.ensures _ c.is_full_beside.ensures c.judge_room.result c.judge_room.ensures) c.in-Sound.is, leave-root c.args.words.now _ c.requires.0 c.requires.1 w _ _ c.row_count.ensures c.place_before-at.ensures.0 c.place_before-at.ensures.1 _ c.root_of-root.ensures, c.first_gap-gap.ensures)
+    (c.requires.0, judged-fine _ _ (leave-judged c.args.words.now _ c.requires.0 c.requires.1 w _ _ c.row_count.ensures c.place_before-at.ensures.0 c.place_before-at.ensures.1 _ c.root_of-root.ensures _ c.is_full_beside.ensures c.judge_room.result c.judge_room.ensures) _ c.in_ok-judge_room.was, leave-root c.args.words.now _ c.requires.0 c.requires.1 w _ _ c.row_count.ensures c.place_before-at.ensures.0 c.place_before-at.ensures.1 _ c.root_of-root.ensures, c.first_gap-gap.ensures)
 
-pub returns-in-No : goal.returns-in-No
-returns-in-No c = let w : (table_of c.args.words.now).next_doc ≤ none = omega (arith, c.slice_known-1.given 1, next-doc-in c.args.words.now) in
-    judged-refused _ _ (leave-judged c.args.words.now _ c.requires.0 c.requires.1 w _ _ c.row_count.ensures c.place_before-at.ensures.0 c.place_before-at.ensures.1 _ c.root_of-root.ensures _ c.is_full_beside.ensures c.judge_room.result c.judge_room.ensures) _ c.in-No.is
+pub returns-in_err-judge_room : goal.returns-in_err-judge_room
+returns-in_err-judge_room c = let w : (table_of c.args.words.now).next_doc ≤ none = omega (arith, c.slice_known-1.given 1, next-doc-in c.args.words.now) in
+    rw (handed-on _ _ c.from_residual.ensures.1) (judged-refused _ _ (leave-judged c.args.words.now _ c.requires.0 c.requires.1 w _ _ c.row_count.ensures c.place_before-at.ensures.0 c.place_before-at.ensures.1 _ c.root_of-root.ensures _ c.is_full_beside.ensures c.judge_room.result c.judge_room.ensures) _ c.in_err-judge_room.was)
 
-pub returns-in-Sound : goal.returns-in-Sound
-returns-in-Sound c = let w : (table_of c.args.words.now).next_doc ≤ none = omega (arith, c.slice_known-1.given 1, next-doc-in c.args.words.now) in
-    navigate-given c.args.words.now _ (judged-fine _ _ (leave-judged c.args.words.now _ c.requires.0 c.requires.1 w _ _ c.row_count.ensures c.place_before-at.ensures.0 c.place_before-at.ensures.1 _ c.root_of-root.ensures _ c.is_full_beside.ensures c.judge_room.result c.judge_room.ensures) c.in-Sound.is) _ _ c.go_beside.ensures.0 c.go_beside.ensures.1
+pub returns : goal.returns
+returns c = let w : (table_of c.args.words.now).next_doc ≤ none = omega (arith, c.slice_known-1.given 1, next-doc-in c.args.words.now) in
+    navigate-given c.args.words.now _ (judged-fine _ _ (leave-judged c.args.words.now _ c.requires.0 c.requires.1 w _ _ c.row_count.ensures c.place_before-at.ensures.0 c.place_before-at.ensures.1 _ c.root_of-root.ensures _ c.is_full_beside.ensures c.judge_room.result c.judge_room.ensures) _ c.in_ok-judge_room.was) _ _ c.go_beside.ensures.0 c.go_beside.ensures.1

@@ -18,5 +18,5 @@ overflow_add-s c = let h = examined-fits _ c.requires.examined in
 pub returns-then-s : goal.returns-then-s
 returns-then-s c = ends-early (rows_of c.args.words.now) _ c.requires.stand-is c.if-s.true
 
-pub returns : goal.returns
-returns c = c.row_count.ensures ∙ ends_last (rows_of c.args.words.now) _ c.requires.stand-is c.if-s.false
+pub returns-else-s : goal.returns-else-s
+returns-else-s c = c.row_count.ensures ∙ ends_last (rows_of c.args.words.now) _ c.requires.stand-is c.if-s.false
