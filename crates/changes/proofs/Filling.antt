@@ -82,9 +82,6 @@ module _ (words : List ℕ) (a b from : ℕ) (h : Awaits words a b from) where
     row-first : FirstChange (table_of words) a b from c
     row-first = subst (NextChange (table_of words) a b from) is n
 
-    pub row-places : Within words c.old.0 × Within words c.new.0
-    row-places = (record { fits = h.ready.fits; below = row-first.first }, record { fits = h.ready.fits; below = row-first.second })
-
     -- The row that is made of what is read.
     pub row_made : (old new : DocNo) (seen : Bool) (v : ℕ) → old.0 ≡ doc_at (rows_of words) c.old.0 → new.0 ≡ doc_at (rows_of words) c.new.0 → seen ≡ visible_at (readable_rows words) c.new.0 → v ≡ bool_byte seen →
         FitsIn w32 (get_or words 2 0) → Follows words a b from (record { frame = c.frame; before = old; after = new; load = v })
@@ -115,12 +112,6 @@ module _ (words : List ℕ) (route : Route) (old : List ChangeRow) (h : Fits wor
       record { upto = omega arith; within = x.0.within; size = ap length (sym e); same_length = refl; filled = put-none (plain old) 0 ∙ ap (put (plain old) 0) (sym e) }
 
   module _ (new : List ChangeRow) (i f : ℕ) (s : Filled words route old new i f) where
-    pub filled-awaits : i < route.trip.count → AwaitsOn words route f
-    filled-awaits l =
-        let z = h.arrived.sized in
-        let y = s.size in
-        record { examined = h.examined; awaits = record { ready = h.arrived.ready; upto = s.within; some = omega arith } }
-
     pub filled_more : (r : ChangeRow) → i < route.trip.count → FollowsOn words route f r → (g : ℕ) → g ≡ r.frame.0 + 1 → Filled words route old (set new i r) (i + 1) g
     filled_more r l x g e =
         let z = s.size in

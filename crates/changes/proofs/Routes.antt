@@ -62,17 +62,6 @@ routes-alone words words' δ room s root top h t e =
 pub read-among : (words : List ℕ) (route : Route) → So route.among → (own : List ℕ) → own ≡ written zeros (window_in words route.root.0) → read_in words route ≡ own
 read-among words route t own is = rw t (sym is)
 
--- So a row that is awaited in the record is awaited there, and one that follows there follows in the record.
-pub out-awaits : (words : List ℕ) (route : Route) (from : ℕ) → AwaitsOn words route from → So route.among → (own : List ℕ) → own ≡ written zeros (window_in words route.root.0) → Awaits own route.trip.span.before.0 route.trip.span.after.0 from
-out-awaits words route from h t own is = subst (λ w. Awaits w route.trip.span.before.0 route.trip.span.after.0 from) (read-among words route t own is) h.awaits
-
-pub out-follows : (words : List ℕ) (route : Route) (from : ℕ) → So route.among → (own : List ℕ) → own ≡ written zeros (window_in words route.root.0) → (r : ChangeRow) →
-    Follows own route.trip.span.before.0 route.trip.span.after.0 from r → FollowsOn words route from r
-out-follows words route from t own is r h = subst (λ w. Follows w route.trip.span.before.0 route.trip.span.after.0 from r) (sym (read-among words route t own is)) h
-
-pub read-alone : (words : List ℕ) (route : Route) → route.among ≡ false → read_in words route ≡ words
-read-alone words route f = rw f refl
-
 -- A WINDOW AMONG OTHERS
 
 module _ (words : List ℕ) (e : Examined words) (word : (table_of words).next_doc ≤ none) (root : FrameNo) (top : So (is_root (rows_of words) root.0))
