@@ -73,11 +73,6 @@ plain-same (r ∷ rows) (s ∷ rows') e =
 -- THE NEXT ROW
 
 module _ (words : List ℕ) (a b from : ℕ) (h : Awaits words a b from) where
-  -- There is one.
-  pub row-found : (o : Option Change) → NextChange (table_of words) a b from o → IsSome o
-  row-found (Some c) n = search rules
-  row-found None n = let e = ap length n in let s = h.some in absurd (omega arith)
-
   module _ (o : Option Change) (n : NextChange (table_of words) a b from o) (c : Change) (is : o ≡ Some c) where
     row-first : FirstChange (table_of words) a b from c
     row-first = subst (NextChange (table_of words) a b from) is n

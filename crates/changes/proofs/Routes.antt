@@ -58,10 +58,6 @@ routes-alone words words' δ room s root top h t e =
       fitting = record { arrived = h.arrived t e; examined = λ a. absurd (clash a refl) };
     }
 
--- Where the rows are read.
-pub read-among : (words : List ℕ) (route : Route) → So route.among → (own : List ℕ) → own ≡ written zeros (window_in words route.root.0) → read_in words route ≡ own
-read-among words route t own is = rw t (sym is)
-
 -- A WINDOW AMONG OTHERS
 
 module _ (words : List ℕ) (e : Examined words) (word : (table_of words).next_doc ≤ none) (root : FrameNo) (top : So (is_root (rows_of words) root.0))
