@@ -1,33 +1,30 @@
 -- Root frames: what the tests of a row tell, and of a record of one window which frame is one. Assumes nothing.
-use Prim.Native.Nat.{ℕ}
-use mathlib.Core.Bool.{not, ◌&&◌, and-eq-true_iff, false}
+use Prim.Native.Nat.{ℕ, ◌<◌}
+use mathlib.Core.Bool.{and-eq-true_iff, false}
 use mathlib.Core.List.{List}
 use mathlib.Core.Logic.{⊎_elim}
-use mathlib.Core.Path.{◌≡◌, ap₂, ◌∙◌, refl}
+use mathlib.Core.Path.{◌≡◌, ◌∙◌, refl}
 use native.Mathlib.Nat.{not-suc-le-zero}
 use native.Mathlib.Omega.{arith}
 use lib.Dec.{eqb}
 use lib.ListN.{length}
 use borrow.Author.Tests.{eqb-true, eq-eqb}
-use Rattle.rules.specs.Rows.{Row, none, frame_at, parent_at}
+use Rattle.rules.specs.Rows.{none, frame_at, parent_at}
 use Rattle.rules.specs.Windows.{is_root}
 use Rattle.rules.specs.Words.{rows_of}
 use Rattle.laws.proofs.Tests.{same_tests, some_in, some_out}
 use Rattle.laws.proofs.Loops.{earliest-in}
-use Rattle.laws.proofs.Tree.{Alike}
+use Rattle.reads.specs.Within.{Within}
 use Rattle.sound.specs.Check.{Examined}
 use Rattle.sound.specs.Survey.{Located}
 use Rattle.sound.specs.declared.Stand.{Stand}
-use Rattle.sound.proofs.Checks.{examined-sound}
+use Rattle.sound.proofs.Checks.{examined-sound, examined-fits}
 use Rattle.sound.proofs.Alone.{alone-root}
 use Rattle.extracts.specs.Windows.{heads, other_root, FirstOther}
 
-module _ (rows : List Row) (r i f p : ℕ) (frame_is : f ≡ frame_at rows i) (parent_is : p ≡ parent_at rows i) where
-  pub head-is : (eqb f r && eqb p none) ≡ heads rows r i
-  head-is = ap₂ (λ x y. eqb x r && eqb y none) frame_is parent_is
-
-  pub other-is : (eqb p none && not (eqb f r)) ≡ other_root r rows i
-  other-is = ap₂ (λ x y. eqb y none && not (eqb x r)) frame_is parent_is
+-- A row of an examined record may be read.
+pub row-within : (words : List ℕ) → Examined words → (n i k : ℕ) → n ≡ length (rows_of words) → k < n → i ≡ k → Within words i
+row-within words e n i k h l q = record { fits = examined-fits words e; below = omega arith }
 
 -- The first row of a sound record has no parent.
 pub first-top : (words : List ℕ) → Examined words → parent_at (rows_of words) 0 ≡ none
@@ -57,7 +54,3 @@ only-root words s h r =
     let k = some_out (heads rows r) (length rows) e in
     let v = simp and-eq-true_iff at k.2 in
     eq-eqb _ _ (alone-root words t h.alone 0 k.0 (omega arith) k.1 top (eqb-true _ _ v.1) ∙ eqb-true _ _ v.0))
-
--- A row that reads alike tells the same.
-pub other-same : (r : ℕ) (rows rows' : List Row) (i : ℕ) → Alike rows i rows' i → other_root r rows i ≡ other_root r rows' i
-other-same r rows rows' i a = ap₂ (λ x y. eqb y none && not (eqb x r)) a.f a.p

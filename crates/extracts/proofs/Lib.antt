@@ -4,3 +4,4 @@ pub mod Stands
 pub mod Windowed
 pub mod Returned
 pub mod Among
+pub mod Ranges

@@ -9,7 +9,7 @@ use native.Mathlib.Numerals.{add-one}
 use native.Mathlib.Omega.{arith}
 use lib.Dec.{eqb, ltb}
 use lib.ListN.{length}
-use borrow.Author.Tests.{eqb-true, eqb-false, eq-eqb, ne_eqb, ltb-true, lt-ltb, le-ltb}
+use borrow.Author.Tests.{eqb-true, eqb-false, eq-eqb, ltb-true, lt-ltb, le-ltb}
 use Rattle.rules.specs.Below.{count}
 use Rattle.rules.specs.Rows.{Row, doc_at, shown_at, is_shown, flag}
 use Rattle.rules.specs.Windows.{in_window, window_rows}
@@ -21,7 +21,6 @@ use Rattle.laws.proofs.Flags.{flags-doc}
 use Rattle.laws.proofs.Writes.{length-put, get-put-before}
 use Rattle.laws.proofs.Words.{rows-length, shown-in}
 use Rattle.laws.proofs.Reflagged.{Reflagged, reflagged-rows, reflagged-same, reflagged-put, reflagged-written}
-use Rattle.reads.specs.Within.{Before, Within}
 use Rattle.windows.proofs.Window.{window-length, window-place, window-row}
 use Rattle.sound.proofs.Checks.{examined-sound, examined-fits, examined-long}
 use Rattle.extracts.specs.Windows.{meets, Gives, PutsBack, with_window}
@@ -29,25 +28,6 @@ use Rattle.extracts.specs.Windows.{meets, Gives, PutsBack, with_window}
 -- A flag of 0 or 1 tells itself.
 flag-back : (s : ℕ) → s ≤ 1 → s ≡ flag (eqb s 1)
 flag-back s l = test (eqb s 1) (λ t. rw t (eqb-true s 1 t)) (λ f. let ne : s ≢ 1 = eqb-false s 1 f in rw f (omega arith))
-
--- A ROW IS PASSED OVER, OR GETS ITS FLAG
-
-module _ (old : List ℕ) (i : ℕ) (own : List ℕ) (k n : ℕ) (all : n ≡ length (rows_of own)) where
-  pub gives-past : n ≤ k → Gives old i own k k old
-  gives-past l = let z = le-ltb k (length (rows_of own)) (omega arith) in record { next-is = rw z refl; words_are = rw z refl }
-
-  module _ (d e : ℕ) (here : d ≡ doc_at (rows_of old) i) (there : e ≡ doc_at (rows_of own) k) where
-    pub gives_none : k < n → (d ≡ e → ⊥) → Gives old i own k k old
-    gives_none l ne =
-        let y = lt-ltb k (length (rows_of own)) (omega arith) in
-        let z = ne_eqb (doc_at (rows_of old) i) (doc_at (rows_of own) k) (λ q. ne (here ∙ q ∙ sym there)) in
-        record { next-is = rw (y, z) refl; words_are = rw (y, z) refl }
-
-    pub gives-flag : (s : ℕ) (new : List ℕ) → k < n → d ≡ e → s ≡ shown_at (rows_of own) k → new ≡ put old (6 + 4 * i) (s ∷ []) → Gives old i own k (k + 1) new
-    gives-flag s new l q es w =
-        let y = lt-ltb k (length (rows_of own)) (omega arith) in
-        let z = eq-eqb (doc_at (rows_of old) i) (doc_at (rows_of own) k) (sym here ∙ q ∙ there) in
-        record { next-is = rw (y, z) refl; words_are = w ∙ rw (y, z, es) refl }
 
 -- What holds of every walk: as many words, as many rows, and the next row of `own` is no later than its end.
 pub record Walking (old own : List ℕ) (k : ℕ) (new : List ℕ) : Type 0 where
@@ -57,11 +37,6 @@ pub record Walking (old own : List ℕ) (k : ℕ) (new : List ℕ) : Type 0 wher
 
 pub walk-starts : (old own : List ℕ) → Walking old own 0 old
 walk-starts old own = record { sized = refl; many = refl; upto = omega arith }
-
-pub walk-within : (old own : List ℕ) → Before old 0 → Before own 0 → (i k : ℕ) (new : List ℕ) → Walking old own k new → i < length (rows_of old) → Within new i × Before own k
-walk-within old own b o i k new w l =
-    let roomy : length (rows_of new) ≤ capacity new = rw w.sized (omega (arith, w.many, b.fits)) in
-    (record { fits = roomy; below = omega (arith, w.many) }, record { fits = o.fits; upto = w.upto })
 
 -- A flag is none of the first words.
 row-count-kept : (old : List ℕ) (i s : ℕ) → length (rows_of (put old (6 + 4 * i) (s ∷ []))) ≡ length (rows_of old)

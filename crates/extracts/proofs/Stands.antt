@@ -2,7 +2,7 @@
 use Prim.Native.Nat.{ℕ, suc, ◌+◌, ◌-◌, ◌≤◌, ◌<◌, max}
 use mathlib.Core.Bool.{Bool, true, false, not, ◌&&◌, So, cond, and-eq-true_iff}
 use mathlib.Core.List.{List}
-use mathlib.Core.Path.{◌≡◌, refl, sym, ap, subst, ◌∙◌}
+use mathlib.Core.Path.{◌≡◌, refl, sym, ap, ◌∙◌}
 use native.Mathlib.Numerals.{add-one}
 use native.Mathlib.Omega.{arith}
 use mir.Val.{bool_byte}
@@ -115,9 +115,6 @@ module _ (rows : List Row) where
             upcoming-is = ue ∙ rw (w.upcoming-is, add-one i) (sym (earliest-miss q i qi));
             under = bound;
           }
-
-  pub scan-all : (i : ℕ) (s : Scan) → i ≡ length rows → Scans rows i s → Scans rows (length rows) s
-  scan-all i s e = subst (λ n. Scans rows n s) e
 
 -- What the walk finds is where the window stands.
 module _ (own : List ℕ) (e : Examined own) (one : So (alone? (rows_of own))) (word : (table_of own).next_doc ≤ none) (s : Scan) (w : Scans (rows_of own) (length (rows_of own)) s) where

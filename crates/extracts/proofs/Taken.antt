@@ -1,15 +1,15 @@
 -- A window's rows gathered, and taken out into zero words. Assumes nothing.
 use Prim.Native.Nat.{ℕ, suc, ◌+◌, ◌-◌, ◌*◌, ◌≤◌}
-use mathlib.Core.Bool.{Bool, true, false, So}
+use mathlib.Core.Bool.{Bool, false, So}
 use mathlib.Core.List.{List, [], ◌∷◌, ◌++◌, flat_map, append-nil}
-use mathlib.Core.Path.{◌≡◌, refl, sym, ap, ap₂, subst, ◌∙◌}
+use mathlib.Core.Path.{◌≡◌, refl, sym, ap, ap₂, ◌∙◌}
 use native.Mathlib.Numerals.{add-one}
 use native.Mathlib.Omega.{arith}
 use lib.Dec.{eqb}
 use lib.ListN.{length, replicate, length-replicate}
 use borrow.Author.Tests.{eqb-true, eq-eqb, le-ltb}
 use Rattle.rules.specs.Below.{count, gather}
-use Rattle.rules.specs.Rows.{Row, Table, none, row_at, doc_at, frame_at, parent_at, shown_at}
+use Rattle.rules.specs.Rows.{Row, Table, none, row_at}
 use Rattle.rules.specs.Words.{put, capacity, words_of_row, table_of, rows_of, written}
 use Rattle.rules.specs.Sound.{Sound, SoundTable}
 use Rattle.rules.specs.Windows.{in_window, window_rows}
@@ -75,14 +75,6 @@ module _ (t : Table) {room : ℕ} (s : SoundTable room t) (fits : length t.rows 
 
 -- THE ROWS, ONE AFTER THE OTHER
 
--- A row that is not to be there, and one that is.
-pub gathers-not : (row : Row) (inside : Bool) (k : ℕ) (old : List ℕ) → inside ≡ false → Gathers inside row k old k old
-gathers-not row inside k old f = record { next-is = rw f refl; words_are = rw f refl }
-
-pub gathers-row : (rows : List Row) (i k : ℕ) (inside : Bool) (old new : List ℕ) → inside ≡ true → (d f p s : ℕ) →
-    d ≡ doc_at rows i → f ≡ frame_at rows i → p ≡ parent_at rows i → s ≡ shown_at rows i → new ≡ put old (3 + 4 * k) (d ∷ f ∷ p ∷ s ∷ []) → Gathers inside (row_at rows i) k old (k + 1) new
-gathers-row rows i k inside old new t d f p s de fe pe se w = record { next-is = rw t refl; words_are = w ∙ rw (t, de, fe, pe, se) refl }
-
 module _ (r : ℕ) (rows : List Row) where
   pub gathered_none : (own : List ℕ) → own ≡ zeros → Gathered r rows 0 0 own
   unfolding count gather flat_map put
@@ -119,9 +111,6 @@ module _ (r : ℕ) (rows : List Row) where
 
   pub gathered-few : (i k : ℕ) (own : List ℕ) → Gathered r rows i k own → k ≤ i
   gathered-few i k own g = omega (arith, g.many, count_most (in_window r rows) i)
-
-  pub gathered-all : (i k : ℕ) (own : List ℕ) → i ≡ length rows → Gathered r rows i k own → Gathered r rows (length rows) k own
-  gathered-all i k own e = subst (λ m. Gathered r rows m k own) e
 
 -- With the head they are the window's own record.
 pub taken_out : (words : List ℕ) → Examined words → (r k d f : ℕ) (own left : List ℕ) → Gathered r (rows_of words) (length (rows_of words)) k own →

@@ -34,12 +34,8 @@ pub fn has_root(words: &[u32], root: FrameNo) -> bool
     requires { Examined words.now }
     ensures { result ≡ is_root (rows_of words.now) root.0 }
 {
-    for i in 0..rows::row_count(words) {
-        if is_head(words, RowPlace(i), root) {
-            return true;
-        }
-    }
-    false
+    let n = rows::row_count(words);
+    (0..n).any(|i| is_head(words, RowPlace(i), root))
 }
 
 // The same of a record of one window: its root frame is that of the first row.
@@ -72,12 +68,8 @@ pub fn first_other(words: &[u32], root: FrameNo) -> RowPlace
     ensures { FirstOther (rows_of words.now) root.0 result.0 }
 {
     let n = rows::row_count(words);
-    for i in 0..n {
-        if is_other(words, RowPlace(i), root) {
-            return RowPlace(i);
-        }
-    }
-    RowPlace(n)
+    let first = (0..n).find(|&i| is_other(words, RowPlace(i), root));
+    RowPlace(first.unwrap_or(n))
 }
 
 // Whether a row is of a window, of which the first row of another root frame is told: the rows before that are.

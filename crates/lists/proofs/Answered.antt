@@ -8,6 +8,7 @@ use mir.Val.{Fits}
 use mir.Syntax.{w32}
 use lib.ListN.{length, get_or}
 use borrow.Author.Tests.{lt-ltb, le-ltb}
+use Rattle.std.specs.Prelude.{Result, Err}
 use Rattle.base.specs.declared.Refusal.{Refusal}
 use Rattle.base.specs.Numbers.{number_of, carried_by}
 use Rattle.rules.specs.Windows.{is_root}
@@ -20,13 +21,12 @@ use Rattle.laws.proofs.Standing.{steps-most}
 use Rattle.sound.specs.Check.{Examined}
 use Rattle.sound.specs.Survey.{survey_of, Located}
 use Rattle.sound.specs.declared.Stand.{Stand}
-use Rattle.sound.specs.declared.Survey.{Survey}
-use Rattle.sound.specs.declared.Survey.TheVariants.{No}
+use Rattle.sound.specs.declared.Windows.{Windows}
 use Rattle.sound.proofs.Checks.{survey-given, examined-fits}
 use Rattle.lists.proofs.Alone.{alone-sound, alone-window}
 
 -- Refused by the record itself, whichever window is asked for.
-module _ (words : List ℕ) (root : ℕ) (k : Survey) (r : Refusal) (e : k ≡ survey_of words) (f : k ≡ No r) where
+module _ (words : List ℕ) (root : ℕ) (k : Result Windows Refusal) (r : Refusal) (e : k ≡ survey_of words) (f : k ≡ Err r) where
   pub position-refused : outcome (Call.Position words root) ≡ record { answer = Answer.refuses (number_of r) (carried_by r); lent = [] }
   unfolding refusals
   position-refused = outcome-refused (Call.Position words root) (number_of r) (carried_by r) (survey-given words _ k r e f)

@@ -140,14 +140,3 @@ module _ (rows : List Row) (s6 : S6 rows) (s7 : InOrder rows) where
     pub upcomings-done : (i : ℕ) (us₀ us : List ℕ) → length rows ≤ i → i ≤ length rows → UpcomingsTo rows i us₀ us → us ≡ put us₀ 0 (upcoming_list rows)
     unfolding upcoming_list
     upcomings-done i us₀ us x y h = h ∙ ap (λ k. put us₀ 0 (gather (upcoming rows) (doc_at rows) k)) (le_antisymm y x)
-
--- By the ways that a step is stored.
-module _ (s : Bool) (m p d : ℕ) (ts us : List ℕ) where
-  pub stores-taken : (new : List ℕ) → s ≡ true → m < p → new ≡ set ts (p - 1 - m) d → (new ≡ taken_with s m p d ts) × (us ≡ upcoming_with s m p d us)
-  stores-taken new t l e = rw (t, lt-ltb m p l) (e, refl)
-
-  pub stores-upcoming : (new : List ℕ) → s ≡ true → p ≤ m → new ≡ set us (m - p) d → (ts ≡ taken_with s m p d ts) × (new ≡ upcoming_with s m p d us)
-  stores-upcoming new t l e = rw (t, le-ltb m p l) (refl, e)
-
-  pub stores-none : s ≡ false → (ts ≡ taken_with s m p d ts) × (us ≡ upcoming_with s m p d us)
-  stores-none f = rw f (refl, refl)

@@ -80,9 +80,6 @@ module _ (r : ℕ) (rows : List Row) where
             recalls = told.recalls;
           }
 
-  pub tally-all : (i : ℕ) (t : Tally) → i ≡ length rows → Tallies r rows i t → Tallies r rows (length rows) t
-  tally-all i t e = subst (λ n. Tallies r rows n t) e
-
 -- What is counted of all rows is the answer.
 module _ (words : List ℕ) (e : Examined words) (word : (table_of words).next_doc ≤ none) (r : ℕ) (b : Bool) (is : b ≡ is_root (rows_of words) r) (yes : So b) (t : Tally)
     (w : Tallies r (rows_of words) (length (rows_of words)) t) where

@@ -1,16 +1,15 @@
--- The paper's number and values for each case of an answer.
-use Rattle.std.specs.Prelude.{[], ◌∷◌}
-use Rattle.base.specs.Numbers.{number_of, carried_by}
+-- What Position and Lists answer, in the paper's numbers. Definitions.
+use Rattle.std.specs.Prelude.{[], ◌∷◌, Result}
+use Rattle.base.specs.Answers.{answered}
+use Rattle.base.specs.declared.Refusal.{Refusal}
 use Rattle.rules.specs.Calls.{Answer}
 use Rattle.lists.specs.declared.Standing.{Standing}
-use Rattle.lists.specs.declared.Standing.TheVariants as Standings
 use Rattle.lists.specs.declared.Listed.{Listed}
-use Rattle.lists.specs.declared.Listed.TheVariants as Lists
 
-abbrev pub standing_is : Standing → Answer
-standing_is (Standings.At position steps length) = Answer.gives (position ∷ steps ∷ length ∷ [])
-standing_is (Standings.Refused r) = Answer.refuses (number_of r) (carried_by r)
+-- Where the window stands, or the refusal's number.
+abbrev pub standing_is : Result Standing Refusal → Answer
+standing_is = answered (λ s. s.position ∷ s.steps ∷ s.length ∷ [])
 
-abbrev pub listed_is : Listed → Answer
-listed_is (Lists.Counts taken upcoming) = Answer.gives (taken ∷ upcoming ∷ [])
-listed_is (Lists.Refused r) = Answer.refuses (number_of r) (carried_by r)
+-- How many steps are taken and upcoming, or the refusal's number.
+abbrev pub listed_is : Result Listed Refusal → Answer
+listed_is = answered (λ n. n.taken ∷ n.upcoming ∷ [])

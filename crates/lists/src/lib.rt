@@ -2,12 +2,11 @@
 // window out into a record of its own.
 #![tactic(auto)]
 
-ghost use Rattle.std.specs.Prelude.{◌≡◌, [], ◌∷◌, length, ◌+◌, ◌-◌, ◌≤◌, ◌<◌, max};
+ghost use Rattle.std.specs.Prelude.{◌≡◌, [], ◌∷◌, length, ◌+◌, ◌-◌, ◌≤◌, ◌<◌};
 ghost use Rattle.rules.specs.Words.{rows_of};
 ghost use Rattle.rules.specs.Calls.{Call, outcome};
 ghost use Rattle.reads.specs.Within.{Within};
 ghost use Rattle.sound.specs.Check.{Examined};
-ghost use Rattle.extracts.specs.Windows.{FirstOther};
 ghost use Rattle.sound.specs.Survey.{Located};
 ghost use Rattle.lists.specs.Answers.{standing_is, listed_is};
 ghost use Rattle.lists.specs.Tallies.{Tallies};
@@ -15,24 +14,29 @@ ghost use Rattle.lists.specs.Listing.{taken_with, upcoming_with, Begun, TakensTo
 
 use base::{DocNo, FrameNo, Refusal, RowPlace};
 use members::Known;
-use sound::{Stand, Survey};
+use sound::{Stand, Windows};
 
 // Where the window stands: position, steps, and the length for scripts.
 #[derive(Clone, Copy)]
-pub enum Standing {
-    At(usize, usize, usize),
-    Refused(Refusal),
+pub struct Standing {
+    pub position: usize,
+    pub steps: usize,
+    pub length: usize,
 }
 
 // Position, steps and length of a window in a sound record of one, which stands so.
-fn position_alone(words: &[u32], s: Stand, root: FrameNo) -> Standing
+fn position_alone(words: &[u32], s: Stand, root: FrameNo) -> Result<Standing, Refusal>
     requires { Located words.now s }
     ensures { outcome (Call.Position words.now root.0) ≡ record { answer = standing_is result; lent = [] } }
 {
     if !extracts::is_only_root(words, s, root) {
-        return Standing::Refused(Refusal::NoRoot);
+        return Err(Refusal::NoRoot);
     }
-    Standing::At(s.position, s.steps, s.steps + 1)
+    Ok(Standing {
+        position: s.position,
+        steps: s.steps,
+        length: s.steps + 1,
+    })
 }
 
 // What a walk over the rows has counted of a window: its hidden rows, which are as many as its steps, how many of them came before its latest shown step, which are its taken ones, a
@@ -51,30 +55,23 @@ fn tally_row(words: &[u32], at: RowPlace, root: FrameNo, t: Tally) -> Tally
     ensures { Tallies root.0 (rows_of words.now) (at.0 + 1) result }
 {
     let m = members::belongs(words, at, root, t.known);
-    let known = m.known;
-    let high = reads::higher(t.high, reads::frame(words, at));
+    let seen = Tally {
+        high: reads::higher(t.high, reads::frame(words, at)),
+        known: m.known,
+        ..t
+    };
     if !m.inside {
-        return Tally {
-            hidden: t.hidden,
-            taken: t.taken,
-            high,
-            known,
-        };
+        return seen;
     }
     if sound::is_shown_step(words, at, t.high) {
         return Tally {
-            hidden: t.hidden,
             taken: t.hidden,
-            high,
-            known,
+            ..seen
         };
     }
-    let hidden = !reads::is_shown(words, at);
     Tally {
-        hidden: t.hidden + hidden as usize,
-        taken: t.taken,
-        high,
-        known,
+        hidden: t.hidden + usize::from(!reads::is_shown(words, at)),
+        ..seen
     }
 }
 
@@ -83,49 +80,49 @@ fn count_window(words: &[u32], root: FrameNo) -> Tally
     requires { Examined words.now }
     ensures { Tallies root.0 (rows_of words.now) (length (rows_of words.now)) result }
 {
-    let n = rows::row_count(words);
     let mut t = Tally {
         hidden: 0,
         taken: 0,
         high: FrameNo(0),
         known: members::nothing_known(),
     };
-    let mut i = 0;
-    while i < n {
+    for i in 0..rows::row_count(words) {
         t = tally_row(words, RowPlace(i), root, t);
-        i += 1;
     }
     t
 }
 
 // Position, steps and length of a window in a sound record of several.
-fn position_among(words: &[u32], root: FrameNo) -> Standing
+fn position_among(words: &[u32], root: FrameNo) -> Result<Standing, Refusal>
     requires { Examined words.now }
     ensures { outcome (Call.Position words.now root.0) ≡ record { answer = standing_is result; lent = [] } }
 {
     if !extracts::has_root(words, root) {
-        return Standing::Refused(Refusal::NoRoot);
+        return Err(Refusal::NoRoot);
     }
     let t = count_window(words, root);
-    Standing::At(t.taken, t.hidden, t.hidden + 1)
+    Ok(Standing {
+        position: t.taken,
+        steps: t.hidden,
+        length: t.hidden + 1,
+    })
 }
 
 // Position, steps and length of a window.
-pub fn position(words: &[u32], root: FrameNo) -> Standing
+pub fn position(words: &[u32], root: FrameNo) -> Result<Standing, Refusal>
     ensures { outcome (Call.Position words.now root.0) ≡ record { answer = standing_is result; lent = [] } }
 {
-    match sound::locate(words) {
-        Survey::No(r) => Standing::Refused(r),
-        Survey::Stands(s) => position_alone(words, s, root),
-        Survey::Several => position_among(words, root),
+    match sound::locate(words)? {
+        Windows::One(s) => position_alone(words, s, root),
+        Windows::Several => position_among(words, root),
     }
 }
 
 // How many steps are taken, and how many upcoming.
 #[derive(Clone, Copy)]
-pub enum Listed {
-    Counts(usize, usize),
-    Refused(Refusal),
+pub struct Listed {
+    pub taken: usize,
+    pub upcoming: usize,
 }
 
 // Stores a step's document: the m-th step is taken where m is below the position, else upcoming.
@@ -166,17 +163,10 @@ fn list_mixed(words: &[u32], s: Stand, taken: &mut [u32], upcoming: &mut [u32]) 
         let d = reads::document(words, at);
         list_step(step, d, m, s.position, taken, upcoming);
         high = reads::higher(high, reads::frame(words, at));
-        m += step as usize;
+        m += usize::from(step);
         i += 1;
     }
     RowPlace(i)
-}
-
-// The later of two places.
-fn later(a: RowPlace, b: RowPlace) -> RowPlace
-    ensures { result.0 ≡ max a.0 b.0 }
-{
-    if a.0 < b.0 { b } else { a }
 }
 
 // Stores the taken steps from a place on, from which all rows are steps.
@@ -185,10 +175,8 @@ fn list_taken(words: &[u32], from: RowPlace, s: Stand, taken: &mut [u32])
     ensures { TakensFrom (rows_of words.now) from.0 taken.old taken.new }
 {
     let end = s.upcoming.0;
-    let mut i = from.0;
-    while i < end {
+    for i in from.0..end {
         taken[end - 1 - i] = reads::document(words, RowPlace(i)).0;
-        i += 1;
     }
 }
 
@@ -197,12 +185,10 @@ fn list_upcoming(words: &[u32], from: RowPlace, s: Stand, upcoming: &mut [u32])
     requires { Located words.now s × Begun (rows_of words.now) from.0 × (s.steps - s.position ≤ length upcoming.old) }
     ensures { UpcomingsFrom (rows_of words.now) from.0 upcoming.old upcoming.new }
 {
-    let n = rows::row_count(words);
     let first = s.frames + s.position;
-    let mut i = later(from, s.upcoming).0;
-    while i < n {
+    let start = from.0.max(s.upcoming.0);
+    for i in start..rows::row_count(words) {
         upcoming[i - first] = reads::document(words, RowPlace(i)).0;
-        i += 1;
     }
 }
 
@@ -213,60 +199,60 @@ fn lists_alone(
     root: FrameNo,
     taken: &mut [u32],
     upcoming: &mut [u32],
-) -> Listed
+) -> Result<Listed, Refusal>
     requires { Located words.now s }
     ensures { outcome (Call.Lists words.now root.0 taken.old upcoming.old) ≡ record { answer = listed_is result; lent = taken.new ∷ upcoming.new ∷ [] } }
 {
     if !extracts::is_only_root(words, s, root) {
-        return Listed::Refused(Refusal::NoRoot);
+        return Err(Refusal::NoRoot);
     }
-    let position = s.position;
-    let ahead = s.steps - position;
-    if taken.len() < position {
-        return Listed::Refused(Refusal::ShortBuffer);
+    let ahead = s.steps - s.position;
+    if taken.len() < s.position {
+        return Err(Refusal::ShortBuffer);
     }
     if upcoming.len() < ahead {
-        return Listed::Refused(Refusal::ShortBuffer);
+        return Err(Refusal::ShortBuffer);
     }
     let begun = list_mixed(words, s, taken, upcoming);
     list_taken(words, begun, s, taken);
     list_upcoming(words, begun, s, upcoming);
-    Listed::Counts(position, ahead)
+    Ok(Listed {
+        taken: s.position,
+        upcoming: ahead,
+    })
 }
 
-// The same in a sound record of several, of which the first row of another root frame is told, by the window's own record.
+// The same in a sound record of several, by the window's own record. Its words take stack only here: the compiler leaves it a function of its own.
+#[inline(never)]
 fn lists_among(
     words: &[u32],
     root: FrameNo,
-    first: RowPlace,
     taken: &mut [u32],
     upcoming: &mut [u32],
-) -> Listed
-    requires { Examined words.now × FirstOther (rows_of words.now) root.0 first.0 }
+) -> Result<Listed, Refusal>
+    requires { Examined words.now }
     ensures { outcome (Call.Lists words.now root.0 taken.old upcoming.old) ≡ record { answer = listed_is result; lent = taken.new ∷ upcoming.new ∷ [] } }
 {
     if !extracts::has_root(words, root) {
-        return Listed::Refused(Refusal::NoRoot);
+        return Err(Refusal::NoRoot);
     }
     let mut own = [0u32; 2051];
-    extracts::take_out(words, root, first, &mut own);
+    extracts::take_out(words, root, extracts::first_other(words, root), &mut own);
     let s = extracts::stand_alone(&own);
     lists_alone(&own, s, root, taken, upcoming)
 }
 
 // Taken steps of a window, latest first, and upcoming steps, earliest first.
-pub fn lists(words: &[u32], root: FrameNo, taken: &mut [u32], upcoming: &mut [u32]) -> Listed
+pub fn lists(
+    words: &[u32],
+    root: FrameNo,
+    taken: &mut [u32],
+    upcoming: &mut [u32],
+) -> Result<Listed, Refusal>
     ensures { outcome (Call.Lists words.now root.0 taken.old upcoming.old) ≡ record { answer = listed_is result; lent = taken.new ∷ upcoming.new ∷ [] } }
 {
-    match sound::locate(words) {
-        Survey::No(r) => Listed::Refused(r),
-        Survey::Stands(s) => lists_alone(words, s, root, taken, upcoming),
-        Survey::Several => {
-            if extracts::is_first(words, root) {
-                let first = extracts::first_other(words, root);
-                return lists_among(words, root, first, taken, upcoming);
-            }
-            lists_among(words, root, RowPlace(0), taken, upcoming)
-        }
+    match sound::locate(words)? {
+        Windows::One(s) => lists_alone(words, s, root, taken, upcoming),
+        Windows::Several => lists_among(words, root, taken, upcoming),
     }
 }

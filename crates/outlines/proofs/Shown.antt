@@ -1,10 +1,12 @@
 -- The rows before a shown one. Assumes nothing.
-use Prim.Native.Nat.{ℕ, zero, suc, ◌+◌, ◌≤◌, ◌<◌}
-use mathlib.Core.Bool.{Bool, true, false}
+use Prim.Native.Nat.{ℕ, zero, suc, ◌≤◌, ◌<◌}
+use mathlib.Core.Bool.{So, false}
 use mathlib.Core.List.{List, flat_map}
-use mathlib.Core.Path.{◌≡◌, refl, sym, ap, ◌∙◌, fun_ext}
+use mathlib.Core.Path.{◌≡◌, refl, ap, ◌∙◌, fun_ext}
 use native.Mathlib.Omega.{arith}
 use lib.ListN.{length}
+use Rattle.std.specs.Prelude.{Option, None, Some}
+use Rattle.std.specs.Option.{MatchOption, unwrap_or}
 use lib.Seq.{drop-cons}
 use Rattle.rules.specs.Below.{rising}
 use Rattle.rules.specs.Rows.{Row, Table, no_row, is_shown, is_frame}
@@ -15,24 +17,13 @@ use Rattle.outlines.specs.Next.{Hidden, NextShown}
 
 -- THE SCAN
 
-module _ (rows : List Row) (s : ℕ) where
-  pub hidden-start : s ≤ length rows → Hidden rows s s
-  hidden-start l = record { after = omega arith; upto = l; hidden = λ j a b. absurd (omega arith) }
-
-  pub hidden-more : (e : ℕ) (b : Bool) → Hidden rows s e → e < length rows → b ≡ is_shown rows e → b ≡ false → Hidden rows s (e + 1)
-  hidden-more e b h l x f =
-      let a = h.after in
-      record {
-        after = omega arith;
-        upto = omega arith;
-        hidden = λ j m k. by-lt j e (λ z. h.hidden j m z) (λ z. let y : j ≡ e = omega arith in rw y (sym x ∙ f));
-      }
-
-  pub shown-here : (e : ℕ) (b : Bool) → Hidden rows s e → b ≡ is_shown rows e → b ≡ true → NextShown rows s e
-  shown-here e b h x t = record { before = h; shown = λ l. sym x ∙ t }
-
-  pub shown-nowhere : (e : ℕ) → Hidden rows s e → length rows ≤ e → NextShown rows s e
-  shown-nowhere e h l = record { before = h; shown = λ m. absurd (omega arith) }
+module _ (rows : List Row) (s n : ℕ) (upto : s ≤ n) (all : n ≡ length rows) where
+  -- The first shown row is what `find` answers.
+  pub first-shown : (r : Option ℕ) →
+      MatchOption r ((k : ℕ) → s ≤ k → k < n → is_shown rows k ≡ false) (λ i. (s ≤ i) × (i < n) × So (is_shown rows i) × ((k : ℕ) → s ≤ k → k < i → is_shown rows k ≡ false)) →
+      NextShown rows s (unwrap_or r n)
+  first-shown None h = record { before = record { after = upto; upto = omega arith; hidden = h }; shown = λ l. absurd (omega arith) }
+  first-shown (Some i) h = record { before = record { after = h.0; upto = omega (arith, h.1); hidden = h.3 }; shown = λ l. h.2 }
 
 -- WHAT IS WRITTEN
 

@@ -42,8 +42,8 @@ pub frame-requires : goal.frame-requires
 frame-requires c = more _ _ c.requires (c.type_inv.words 1) _ _ c.loop-i.invariant.0 c.loop-i.invariant.1 c.loop-i.invariant.2 c.loop-i-test.true
 
 pub overflow_add-m : goal.overflow_add-m
-overflow_add-m c = steps-fit _ _ _ c.is_step-step.result c.loop-i.invariant.2
-    (more _ _ c.requires (c.type_inv.words 1) _ _ c.loop-i.invariant.0 c.loop-i.invariant.1 c.loop-i.invariant.2 c.loop-i-test.true)
+overflow_add-m c = rw c.from-m.ensures (steps-fit _ _ _ c.is_step-step.result c.loop-i.invariant.2
+    (more _ _ c.requires (c.type_inv.words 1) _ _ c.loop-i.invariant.0 c.loop-i.invariant.1 c.loop-i.invariant.2 c.loop-i-test.true))
 
 pub overflow_add-i : goal.overflow_add-i
 overflow_add-i c = let w = more _ _ c.requires (c.type_inv.words 1) _ _ c.loop-i.invariant.0 c.loop-i.invariant.1 c.loop-i.invariant.2 c.loop-i-test.true in search rules
@@ -55,7 +55,8 @@ pub loop-i-preserved : goal.loop-i-preserved
 loop-i-preserved c = let t = alone-sound c.args.words.now _ c.requires (c.type_inv.words 1) in
     let p = ap (λ s. s.position) c.requires.stand-is in
     let rows = rows_of c.args.words.now in
-    let l = (more _ _ c.requires (c.type_inv.words 1) _ _ c.loop-i.invariant.0 c.loop-i.invariant.1 c.loop-i.invariant.2 c.loop-i-test.true).below in (
+    let l = (more _ _ c.requires (c.type_inv.words 1) _ _ c.loop-i.invariant.0 c.loop-i.invariant.1 c.loop-i.invariant.2 c.loop-i-test.true).below in
+    rw c.from-m.ensures (
       omega arith,
       count-more _ _ _ _ c.loop-i.invariant.1 c.is_step-step.ensures,
       count-within _ _ c.is_step-step.result c.loop-i.invariant.2,

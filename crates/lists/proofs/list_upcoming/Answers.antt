@@ -34,27 +34,26 @@ overflow_add-first c = let h = examined-fits _ c.requires.0.examined in
 
 pub loop-i-init : goal.loop-i-init
 loop-i-init c = let t = alone-sound c.args.words.now _ c.requires.0 (c.type_inv.words 1) in
-    (c.row_count-n.ensures, omega arith, omega (arith, c.later-i.ensures, ap (λ s. s.upcoming.0) c.requires.0.stand-is, c.requires.1.upto, upto-start (rows_of c.args.words.now) t.s6 t.s7), refl, λ old h. h)
+    (omega arith, omega (arith, c.max-start.ensures, ap (λ s. s.upcoming.0) c.requires.0.stand-is, c.requires.1.upto, upto-start (rows_of c.args.words.now) t.s6 t.s7), refl, λ old h. h)
 
 pub document-requires : goal.document-requires
 document-requires c = let h = examined-fits _ c.requires.0.examined in search rules
 
 pub overflow_sub-upcoming : goal.overflow_sub-upcoming
-overflow_sub-upcoming c = (room _ _ c.requires.0 (c.type_inv.words 1) _ c.requires.1 _ _ (length c.loop-i.upcoming) c.later-i.ensures c.loop-i.invariant.1 (omega arith) (omega arith)).0
+overflow_sub-upcoming c = (room _ _ c.requires.0 (c.type_inv.words 1) _ c.requires.1 _ _ (length c.loop-i.upcoming) c.max-start.ensures c.loop-i.invariant.0 (omega arith) (omega arith)).0
 
 pub bounds-upcoming-i : goal.bounds-upcoming-i
-bounds-upcoming-i c = (room _ _ c.requires.0 (c.type_inv.words 1) _ c.requires.1 _ _ _ c.later-i.ensures c.loop-i.invariant.1 (omega arith) (omega arith)).1
+bounds-upcoming-i c = (room _ _ c.requires.0 (c.type_inv.words 1) _ c.requires.1 _ _ _ c.max-start.ensures c.loop-i.invariant.0 (omega arith) (omega arith)).1
 
 pub loop-i-preserved : goal.loop-i-preserved
 loop-i-preserved c = let t = alone-sound c.args.words.now _ c.requires.0 (c.type_inv.words 1) in (
-  c.loop-i.invariant.0,
   omega arith,
   omega arith,
-  simp length-set c.loop-i.invariant.3,
-  λ old h. upcoming-on (rows_of c.args.words.now) t.s6 t.s7 _ c.requires.1 _ _ _ old _ (omega (arith, c.later-i.ensures)) (omega (arith, c.later-i.ensures, ap (λ s. s.upcoming.0) c.requires.0.stand-is)) (omega arith) (ap (λ s. s.frames + s.position) c.requires.0.stand-is) c.document.ensures (c.loop-i.invariant.4 old h),
+  simp length-set c.loop-i.invariant.2,
+  λ old h. upcoming-on (rows_of c.args.words.now) t.s6 t.s7 _ c.requires.1 _ _ _ old _ (omega (arith, c.max-start.ensures)) (omega (arith, c.max-start.ensures, ap (λ s. s.upcoming.0) c.requires.0.stand-is)) (omega arith) (ap (λ s. s.frames + s.position) c.requires.0.stand-is) c.document.ensures (c.loop-i.invariant.3 old h),
 )
 
 pub returns : goal.returns
 returns c = let t = alone-sound c.args.words.now _ c.requires.0 (c.type_inv.words 1) in
     λ old h. upcomings-done (rows_of c.args.words.now) t.s6 t.s7 _ c.requires.1 _ old _ (omega arith) (omega arith)
-    (c.loop-i.invariant.4 old (upcoming-from (rows_of c.args.words.now) t.s6 t.s7 _ c.requires.1 _ old _ (c.later-i.ensures ∙ ap (λ s. max c.args.from.0 s.upcoming.0) c.requires.0.stand-is) h))
+    (c.loop-i.invariant.3 old (upcoming-from (rows_of c.args.words.now) t.s6 t.s7 _ c.requires.1 _ old _ (c.max-start.ensures ∙ ap (λ s. max c.args.from.0 s.upcoming.0) c.requires.0.stand-is) h))

@@ -21,9 +21,9 @@ decreases-outline_frames l = left l.words.now l.from.0 + left l.words.now l.from
 -- The frames below `least` are written.
 abbrev pub invariant-outline_frames-loop-at : goal.invariant-outline_frames-loop-at
 invariant-outline_frames-loop-at l =
-    (l.limit.0 ≡ (table_of l.words).next_frame) × (l.least ≤ l.limit.0)
-    × (l.pairs ≡ put l.initial.pairs l.k (frames_below (table_of l.words) l.from.0 l.depth l.d.0 l.least))
-    × (l.free ≡ l.k + length (frames_below (table_of l.words) l.from.0 l.depth l.d.0 l.least))
+    (l.limit.0 ≡ (table_of l.words).next_frame) × (l.least.0 ≤ l.limit.0)
+    × (l.pairs ≡ put l.initial.pairs l.k (frames_below (table_of l.words) l.from.0 l.depth l.d.0 l.least.0))
+    × (l.free ≡ l.k + length (frames_below (table_of l.words) l.from.0 l.depth l.d.0 l.least.0))
 
 abbrev pub decreases-outline_frames-loop-at : goal.decreases-outline_frames-loop-at
-decreases-outline_frames-loop-at l = l.limit.0 - l.least
+decreases-outline_frames-loop-at l = l.limit.0 - l.least.0
