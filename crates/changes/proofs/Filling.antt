@@ -1,25 +1,22 @@
 -- Change rows as plain words: one row set, and the rows one by one. Assumes nothing.
-use Prim.Native.Nat.{ℕ, zero, suc, ◌+◌, ◌*◌, ◌/◌, ◌≤◌, ◌<◌, ◌^◌}
+use Prim.Native.Nat.{ℕ, zero, suc, ◌+◌, ◌*◌, ◌/◌, ◌≤◌, ◌<◌}
 use mathlib.Core.Bool.{Bool}
 use mathlib.Core.List.{List, [], ◌∷◌, ◌++◌}
 use mathlib.Core.Path.{◌≡◌, refl, sym, ap, subst, ◌∙◌}
 use native.Mathlib.Omega.{arith}
-use borrow.Author.Rules.{rules}
 use lib.IntN.{ℤ}
 use mir.Syntax.{w32}
 use mir.Val.{bool_byte, Fits as FitsIn}
 use lib.ListN.{length, get_or, set, length-set, length-append}
-use Rattle.std.specs.Prelude.{Option, None, Some, Result, Ok, Err, IsSome}
+use Rattle.std.specs.Prelude.{Option, Some, Ok, Err}
 use Rattle.base.specs.declared.DocNo.{DocNo}
 use Rattle.base.specs.declared.Refusal.{Refusal}
-use Rattle.rules.specs.Rows.{none, doc_at, flag}
+use Rattle.rules.specs.Rows.{doc_at, flag}
 use Rattle.rules.specs.Steps.{visible_at}
 use Rattle.rules.specs.Words.{put, table_of, rows_of}
 use Rattle.rules.specs.Calls.{Call, outcome}
-use Rattle.laws.proofs.Tests.{by-lt}
 use Rattle.laws.proofs.Words.{next-frame-in}
 use Rattle.laws.proofs.Writes.{put-none, put-put, put_four}
-use Rattle.reads.specs.Within.{Within}
 use Rattle.traverses.specs.declared.Change.{Change}
 use Rattle.traverses.specs.Answers.{traversed_is}
 use Rattle.traverses.specs.Texts.{FirstChange, NextChange}
@@ -27,7 +24,7 @@ use Rattle.rows.specs.Readable.{readable_rows}
 use Rattle.traverses.proofs.Texts.{none-before, text-whole, climbed}
 use Rattle.changes.specs.declared.ChangeRow.{ChangeRow}
 use Rattle.changes.specs.declared.Route.{Route}
-use Rattle.changes.specs.Changes.{row_text, plain, Awaits, Follows, read_in, route_text, route_below, AwaitsOn, FollowsOn, Fits, Routed, Routes}
+use Rattle.changes.specs.Changes.{row_text, plain, Awaits, Follows, read_in, route_text, route_below, FollowsOn, Fits, Routed, Routes}
 
 -- ROWS AND WORDS
 
