@@ -1,25 +1,22 @@
 -- Change rows as plain words: one row set, and the rows one by one. Assumes nothing.
-use Prim.Native.Nat.{ℕ, zero, suc, ◌+◌, ◌*◌, ◌/◌, ◌≤◌, ◌<◌, ◌^◌}
+use Prim.Native.Nat.{ℕ, zero, suc, ◌+◌, ◌*◌, ◌/◌, ◌≤◌, ◌<◌}
 use mathlib.Core.Bool.{Bool}
 use mathlib.Core.List.{List, [], ◌∷◌, ◌++◌}
 use mathlib.Core.Path.{◌≡◌, refl, sym, ap, subst, ◌∙◌}
 use native.Mathlib.Omega.{arith}
-use borrow.Author.Rules.{rules}
 use lib.IntN.{ℤ}
 use mir.Syntax.{w32}
 use mir.Val.{bool_byte, Fits as FitsIn}
 use lib.ListN.{length, get_or, set, length-set, length-append}
-use Rattle.std.specs.Prelude.{Option, None, Some, Result, Ok, Err, IsSome}
+use Rattle.std.specs.Prelude.{Option, Some, Ok, Err}
 use Rattle.base.specs.declared.DocNo.{DocNo}
 use Rattle.base.specs.declared.Refusal.{Refusal}
-use Rattle.rules.specs.Rows.{none, doc_at, flag}
+use Rattle.rules.specs.Rows.{doc_at, flag}
 use Rattle.rules.specs.Steps.{visible_at}
 use Rattle.rules.specs.Words.{put, table_of, rows_of}
 use Rattle.rules.specs.Calls.{Call, outcome}
-use Rattle.laws.proofs.Tests.{by-lt}
 use Rattle.laws.proofs.Words.{next-frame-in}
 use Rattle.laws.proofs.Writes.{put-none, put-put, put_four}
-use Rattle.reads.specs.Within.{Within}
 use Rattle.traverses.specs.declared.Change.{Change}
 use Rattle.traverses.specs.Answers.{traversed_is}
 use Rattle.traverses.specs.Texts.{FirstChange, NextChange}
@@ -27,7 +24,7 @@ use Rattle.rows.specs.Readable.{readable_rows}
 use Rattle.traverses.proofs.Texts.{none-before, text-whole, climbed}
 use Rattle.changes.specs.declared.ChangeRow.{ChangeRow}
 use Rattle.changes.specs.declared.Route.{Route}
-use Rattle.changes.specs.Changes.{row_text, plain, Awaits, Follows, read_in, route_text, route_below, AwaitsOn, FollowsOn, Fits, Routed, Routes}
+use Rattle.changes.specs.Changes.{row_text, plain, Awaits, Follows, read_in, route_text, route_below, FollowsOn, Fits, Routed, Routes}
 
 -- ROWS AND WORDS
 
@@ -73,17 +70,9 @@ plain-same (r ∷ rows) (s ∷ rows') e =
 -- THE NEXT ROW
 
 module _ (words : List ℕ) (a b from : ℕ) (h : Awaits words a b from) where
-  -- There is one.
-  pub row-found : (o : Option Change) → NextChange (table_of words) a b from o → IsSome o
-  row-found (Some c) n = search rules
-  row-found None n = let e = ap length n in let s = h.some in absurd (omega arith)
-
   module _ (o : Option Change) (n : NextChange (table_of words) a b from o) (c : Change) (is : o ≡ Some c) where
     row-first : FirstChange (table_of words) a b from c
     row-first = subst (NextChange (table_of words) a b from) is n
-
-    pub row-places : Within words c.old.0 × Within words c.new.0
-    row-places = (record { fits = h.ready.fits; below = row-first.first }, record { fits = h.ready.fits; below = row-first.second })
 
     -- The row that is made of what is read.
     pub row_made : (old new : DocNo) (seen : Bool) (v : ℕ) → old.0 ≡ doc_at (rows_of words) c.old.0 → new.0 ≡ doc_at (rows_of words) c.new.0 → seen ≡ visible_at (readable_rows words) c.new.0 → v ≡ bool_byte seen →
@@ -115,12 +104,6 @@ module _ (words : List ℕ) (route : Route) (old : List ChangeRow) (h : Fits wor
       record { upto = omega arith; within = x.0.within; size = ap length (sym e); same_length = refl; filled = put-none (plain old) 0 ∙ ap (put (plain old) 0) (sym e) }
 
   module _ (new : List ChangeRow) (i f : ℕ) (s : Filled words route old new i f) where
-    pub filled-awaits : i < route.trip.count → AwaitsOn words route f
-    filled-awaits l =
-        let z = h.arrived.sized in
-        let y = s.size in
-        record { examined = h.examined; awaits = record { ready = h.arrived.ready; upto = s.within; some = omega arith } }
-
     pub filled_more : (r : ChangeRow) → i < route.trip.count → FollowsOn words route f r → (g : ℕ) → g ≡ r.frame.0 + 1 → Filled words route old (set new i r) (i + 1) g
     filled_more r l x g e =
         let z = s.size in

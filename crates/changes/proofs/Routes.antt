@@ -1,7 +1,5 @@
 -- What a shift's route tells, by the ways that it goes. Assumes nothing.
-use mir.Syntax.{w32}
-use mir.Val.{Fits as FitsIn}
-use Prim.Native.Nat.{ℕ, ◌*◌, ◌/◌, ◌≤◌, ◌<◌}
+use Prim.Native.Nat.{ℕ, ◌*◌, ◌/◌, ◌≤◌}
 use mathlib.Core.Bool.{true, false, So, cond}
 use mathlib.Core.List.{List, [], ◌∷◌}
 use mathlib.Core.Path.{◌≡◌, refl, sym, ap, subst, ◌∙◌}
@@ -12,18 +10,17 @@ use Rattle.base.specs.declared.FrameNo.{FrameNo}
 use Rattle.base.specs.declared.Refusal.{Refusal}
 use Rattle.std.specs.Prelude.{Result, Ok, Err}
 use Rattle.rules.specs.Rows.{Row, Table, none}
-use Rattle.rules.specs.Windows.{window_rows, window_of, is_root, in_window}
+use Rattle.rules.specs.Windows.{window_rows, window_of, is_root}
 use Rattle.rules.specs.Moves.{walked, traversed}
-use Rattle.rules.specs.Words.{put, table_of, rows_of, written, capacity}
+use Rattle.rules.specs.Words.{put, table_of, rows_of, written}
 use Rattle.rules.specs.Calls.{Call, beyond, window_in, outcome}
-use Rattle.laws.proofs.Tests.{test, clash, count_most}
+use Rattle.laws.proofs.Tests.{test, clash}
 use Rattle.laws.proofs.Reflect.{sound-is}
 use Rattle.laws.proofs.Tree.{OneRoot}
 use Rattle.laws.proofs.Travel.{walked-length}
-use Rattle.laws.proofs.Words.{written-written, next-frame-in, table-written}
-use Rattle.laws.proofs.Writes.{put-none}
+use Rattle.laws.proofs.Words.{written-written}
 use Rattle.reads.specs.Within.{Before}
-use Rattle.windows.proofs.Window.{window-one-root, window-length}
+use Rattle.windows.proofs.Window.{window-one-root}
 use Rattle.windows.proofs.Flagged.{traversed-here}
 use Rattle.windows.proofs.Answers.{fit_wide, Twins, Trip, twins-trip}
 use Rattle.windows.proofs.Only.{only-traversed}
@@ -39,8 +36,7 @@ use Rattle.traverses.specs.Answers.{traversed_is, trip_text, Arrived, Shifts}
 use Rattle.traverses.proofs.Among.{out-back}
 use Rattle.traverses.proofs.Ways.{went-way, stayed-way}
 use Rattle.changes.specs.declared.Route.{Route}
-use Rattle.changes.specs.declared.ChangeRow.{ChangeRow}
-use Rattle.changes.specs.Changes.{read_in, route_text, Awaits, Follows, AwaitsOn, FollowsOn, Routed, Routes}
+use Rattle.changes.specs.Changes.{Routed, Routes}
 
 -- What a shift says where it was refused, and where it went.
 pub routes-stayed : (words words' : List ℕ) (r : ℕ) (δ : ℤ) (room : ℕ) (k : Result Route Refusal) → Routes words r δ room k words' → (why : Refusal) → k ≡ Err why → Routes words r δ room (Err why) words'
@@ -57,21 +53,6 @@ routes-alone words words' δ room s root top h t e =
       outcome-is = λ lent l. went-way words words' root.0 top δ room s h t e lent _ l refl;
       fitting = record { arrived = h.arrived t e; examined = λ a. absurd (clash a refl) };
     }
-
--- Where the rows are read.
-pub read-among : (words : List ℕ) (route : Route) → So route.among → (own : List ℕ) → own ≡ written zeros (window_in words route.root.0) → read_in words route ≡ own
-read-among words route t own is = rw t (sym is)
-
--- So a row that is awaited in the record is awaited there, and one that follows there follows in the record.
-pub out-awaits : (words : List ℕ) (route : Route) (from : ℕ) → AwaitsOn words route from → So route.among → (own : List ℕ) → own ≡ written zeros (window_in words route.root.0) → Awaits own route.trip.span.before.0 route.trip.span.after.0 from
-out-awaits words route from h t own is = subst (λ w. Awaits w route.trip.span.before.0 route.trip.span.after.0 from) (read-among words route t own is) h.awaits
-
-pub out-follows : (words : List ℕ) (route : Route) (from : ℕ) → So route.among → (own : List ℕ) → own ≡ written zeros (window_in words route.root.0) → (r : ChangeRow) →
-    Follows own route.trip.span.before.0 route.trip.span.after.0 from r → FollowsOn words route from r
-out-follows words route from t own is r h = subst (λ w. Follows w route.trip.span.before.0 route.trip.span.after.0 from r) (sym (read-among words route t own is)) h
-
-pub read-alone : (words : List ℕ) (route : Route) → route.among ≡ false → read_in words route ≡ words
-read-alone words route f = rw f refl
 
 -- A WINDOW AMONG OTHERS
 

@@ -1,5 +1,5 @@
 -- Change rows as plain words, and what the function that fills them relies on. Definitions.
-use Rattle.std.specs.Prelude.{ℕ, ◌+◌, ◌/◌, ◌≤◌, ◌<◌, Bool, cond, Result, Ok, Err, ◌≡◌, eqb, ℤ, length, replicate}
+use Rattle.std.specs.Prelude.{ℕ, ◌+◌, ◌/◌, ◌≤◌, ◌<◌, cond, Result, Ok, Err, ◌≡◌, eqb, ℤ, length, replicate}
 use Rattle.std.proofs.Math.Bool.{So}
 use mathlib.Core.List.{List, [], ◌∷◌, ◌++◌, flat_map}
 use Rattle.base.specs.declared.Refusal.{Refusal}

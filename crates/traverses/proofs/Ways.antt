@@ -18,7 +18,7 @@ use Rattle.rules.specs.Steps.{step, steps}
 use Rattle.rules.specs.Windows.{is_root}
 use Rattle.rules.specs.Moves.{walked, traversed, frames, shown_doc, change_row, changes}
 use Rattle.rules.specs.Words.{put, table_of, rows_of, written}
-use Rattle.rules.specs.Calls.{Call, Answer, Outcome, outside, beyond, too_short, window_in, refusals, accepted, ladder, outcome, Given}
+use Rattle.rules.specs.Calls.{Call, Answer, outside, beyond, too_short, window_in, refusals, accepted, ladder, outcome, Given}
 use Rattle.laws.proofs.Tests.{test}
 use Rattle.laws.proofs.Central.{flags_at, central, at_length, at-doc, at-frame, at_at}
 use Rattle.laws.proofs.Travel.{walked_at}

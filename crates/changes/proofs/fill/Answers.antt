@@ -1,5 +1,4 @@
 -- The goals of `changes::fill` that want a word.
-use native.Mathlib.Omega.{arith}
 use mathlib.Core.Path.{refl}
 use Rattle.changes.proofs.Filling.{filled-starts, filled_more, filled-ends}
 use Rattle.changes.proofs.fill.Goals as goal

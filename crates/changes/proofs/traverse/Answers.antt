@@ -11,9 +11,6 @@ returns-in_err-route c =
     let e = to_z-of_z w32 c.args.delta c.ranges.delta in
     rw (handed-on _ _ c.from_residual.ensures.1) (traverse-stayed _ _ _ _ _ _ (routes-stayed _ _ _ _ _ _ (simp e at c.shift.ensures) _ c.in_err-route.was))
 
-pub fill-requires : goal.fill-requires
-fill-requires c = (routes-went _ _ _ _ _ _ c.shift.ensures _ c.in_ok-route.was).fitting
-
 pub returns : goal.returns
 returns c =
     let e = to_z-of_z w32 c.args.delta c.ranges.delta in
