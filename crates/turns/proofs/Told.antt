@@ -3,17 +3,12 @@ use Prim.Native.Nat.{ℕ}
 use mathlib.Core.List.{List, [], ◌∷◌}
 use mathlib.Core.Path.{◌≡◌, sym, ap, ◌∙◌}
 use lib.IntN.{ℤ}
+use Rattle.std.specs.Prelude.{Option}
 use Rattle.rules.specs.Calls.{Call, Answer, Outcome, outcome}
-use Rattle.lists.specs.Answers.{standing_is}
-use Rattle.lists.specs.declared.Standing.{Standing}
 use Rattle.lines.specs.Lines.{Command, parse, command_is}
 use Rattle.lines.specs.declared.Command.{Command as Read}
 use Rattle.lines.specs.Reply.{Said}
 use Rattle.turns.specs.Turns.{Turned, Teller, one_number, told, standing, telling, moved, Leaves, gone, obeyed, turned}
-
--- What is said by Position's answer, whichever that is.
-pub said_at : (say : Answer → Said) (words : List ℕ) (st x : Standing) → outcome (Call.Position words 0) ≡ record { answer = standing_is st; lent = [] } → st ≡ x → say (standing_is x) ≡ say (standing words)
-said_at say words st x e f = sym (ap (λ o. say o.answer) e ∙ ap (λ s. say (standing_is s)) f)
 
 -- A call says what its answer tells.
 tells : (tell : Teller) (a b : Answer) (words rows : List ℕ) (said : Said) → a ≡ b → said ≡ told tell (standing words) b → telling tell a words rows ≡ record { said = said; words = words; changes = rows }
