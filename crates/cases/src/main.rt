@@ -125,7 +125,10 @@ fn say_documents(rt: &impl Print, words: &[u32]) -> io::Result<()> {
 fn stand(rt: &impl Print, words: &[u32]) -> io::Result<()> {
     match lists::position(words, FrameNo(0)) {
         Ok(s) => {
-            print!(rt; "  position {} of {}, length {}, visible", s.position, s.steps, s.length)?;
+            print!(rt;
+                "  position {} of {}, length {}, visible",
+                s.position, s.steps, s.length
+            )?;
             say_documents(rt, words)?;
             println!(rt; "")
         }
@@ -137,7 +140,10 @@ fn stand(rt: &impl Print, words: &[u32]) -> io::Result<()> {
 fn stand_in(rt: &impl Print, words: &[u32], root: u32) -> io::Result<()> {
     print!(rt; "  window {root}: ")?;
     match lists::position(words, FrameNo(root)) {
-        Ok(s) => println!(rt; "position {} of {}, length {}", s.position, s.steps, s.length),
+        Ok(s) => println!(rt;
+            "position {} of {}, length {}",
+            s.position, s.steps, s.length
+        ),
         Err(r) => println!(rt; "refused {r}"),
     }
 }

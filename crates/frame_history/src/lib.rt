@@ -365,16 +365,18 @@ fn told_place(answer: Result<Place, Refusal>, kind: &mut u32, x: &mut f64, y: &m
     ensures { ToldPlace answer (place_outs kind.old x.old y.old) (place_outs kind.new x.new y.new) result }
 {
     match answer {
-        Ok(Place::Itself) => {
-            *kind = 0;
-            0
-        }
-        Ok(Place::At(p)) => {
-            *kind = 1;
-            *x = p.x;
-            *y = p.y;
-            0
-        }
+        Ok(place) => match place {
+            Place::Itself => {
+                *kind = 0;
+                0
+            }
+            Place::At(p) => {
+                *kind = 1;
+                *x = p.x;
+                *y = p.y;
+                0
+            }
+        },
         Err(r) => u32::from(r),
     }
 }

@@ -134,7 +134,8 @@ fn answer_all<R: Read, W: Write>(input: &mut R, output: &mut W) -> Result<()>
     let mut line = [0u8; 65];
     let mut words = [0u32; 2051];
     let mut changes = [0u32; 2048];
-    moves::fresh(&mut words);
+    // Not refused: there is room.
+    let _ = moves::fresh(&mut words);
     run(
         input,
         output,
