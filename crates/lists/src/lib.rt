@@ -222,7 +222,7 @@ fn lists_alone(
     })
 }
 
-// The same in a sound record of several, by the window's own record. Its words take stack only here: the compiler leaves it a function of its own.
+// The same in a sound record of several, by the window's own record. That record's words take the stack of this function alone: the compiler leaves it by itself.
 #[inline(never)]
 fn lists_among(
     words: &[u32],
