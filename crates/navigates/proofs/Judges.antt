@@ -16,7 +16,7 @@ use Rattle.rules.specs.Words.{table_of, rows_of, written}
 use Rattle.rules.specs.Sound.{Sound}
 use Rattle.rules.specs.Calls.{Call, Answer, full, refusals, accepted, outcome, Given, NoneGiven}
 use Rattle.laws.specs.Alone.{cleared_all}
-use Rattle.laws.proofs.Calls.{given-more, given-after, none_more, outcome-accepted, outcome-refused}
+use Rattle.laws.proofs.Calls.{outcome-accepted, outcome-refused}
 use Rattle.laws.proofs.Tree.{place_is, tree_of}
 use Rattle.laws.proofs.Climb.{sees-out}
 use Rattle.windows.proofs.Ends.{cleared-alone}

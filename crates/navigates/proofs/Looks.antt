@@ -1,23 +1,19 @@
--- Where a row stands to a window, by the ways that the code finds it, and what a turn makes of it. Assumes nothing.
+-- Where a row stands to a window, by the ways that the code finds it. Assumes nothing.
 use Prim.Native.Nat.{ℕ}
-use mathlib.Core.Bool.{Bool, true, false}
 use mathlib.Core.List.{List}
 use mathlib.Core.Logic.{◌≢◌}
 use mathlib.Core.Path.{◌≡◌, refl, sym, ap, ◌∙◌}
 use lib.Dec.{eqb}
 use borrow.Author.Tests.{eq-eqb, ne_eqb}
-use Rattle.base.specs.declared.DocNo.{DocNo}
 use Rattle.base.specs.declared.RowPlace.{RowPlace}
-use Rattle.rules.specs.Rows.{Row, none, frame_at, parent_at, is_shown, is_doc}
+use Rattle.rules.specs.Rows.{Row, none, frame_at, parent_at, is_doc}
 use Rattle.rules.specs.Windows.{root_at}
 use Rattle.reads.specs.Found.{found_below}
 use Rattle.std.specs.Prelude.{Option, None, Some}
 use Rattle.reads.proofs.Scans.{found_at, found_nothing}
-use Rattle.packs.specs.Packing.{parent_kept}
 use Rattle.navigates.specs.declared.Side.{Side}
 use Rattle.navigates.specs.declared.Side.TheVariants.{Lost}
-use Rattle.navigates.specs.declared.Sides.{Sides}
-use Rattle.navigates.specs.Sides.{side_if, is_outside, doc_side, side_of, recalled, Turned}
+use Rattle.navigates.specs.Sides.{side_if, doc_side, side_of}
 
 -- By the row that holds the document.
 module _ (r : ℕ) (rows : List Row) (k d : ℕ) (f : Option RowPlace) (scan : f ≡ found_below (is_doc rows d) k) where
@@ -44,15 +40,3 @@ module _ (r : ℕ) (rows : List Row) (k i up : ℕ) (named : up ≡ parent_at ro
     -- One beneath a document that is known.
     pub side-known : (d : ℕ) (s : Side) → (d ≢ none → doc_side r rows k d ≡ s) → up ≡ d → s ≡ side_of r rows k i
     side-known d s h e = side-looked s (sym (h (λ z. some (e ∙ z))) ∙ ap (doc_side r rows k) (sym e))
-
--- A TURN
-
-module _ (r : ℕ) (rows : List Row) (k i : ℕ) (known : Sides) (b : Bool) (e : b ≡ is_shown rows i) where
-  -- At a shown row.
-  pub turn-shown : b ≡ true → (v : Bool) → v ≡ parent_kept rows k i → Turned r rows k i known (record { stays = v; known = known })
-  turn-shown t v h = record { stays-is = h ∙ rw (sym e ∙ t) refl; known_is = rw (sym e ∙ t) refl }
-
-  -- At another.
-  pub turn-hidden : b ≡ false → (up : DocNo) (s : Side) (v : Bool) (next : Sides) → up.0 ≡ parent_at rows i → s ≡ side_of r rows k i → v ≡ is_outside s → next ≡ recalled known up s →
-      Turned r rows k i known (record { stays = v; known = next })
-  turn-hidden f up s v next h g x y = record { stays-is = x ∙ rw (sym e ∙ f, g) refl; known_is = y ∙ rw (sym e ∙ f, g, ← h) refl }

@@ -39,8 +39,8 @@ pub record Turn (passes : Bool) (old : List ℕ) (i : ℕ) (kept next : Keeping)
       (last_parent (rows_of old) kept.rows kept.found.0) kept.found.0
   pub missed-is : next.missed.0 ≡ cond (passes || parent_kept (rows_of old) kept.rows i) kept.missed.0 (parent_at (rows_of old) i)
 
--- What closing the gaps begins with, where rows that pass go with all beneath them: before the first row that passes, it knows of one document that those rows hold it, or that it is none, and of
--- another that no row that stays holds it.
+-- How closing the gaps may begin, where rows that pass go with all beneath each: none of the first rows that are kept passes, the document found is none or one of them holds it,
+-- and the one missed is some document, and every row that holds it passes.
 pub record Begins (q : ℕ → Bool) (rows : List Row) (kept : Keeping) : Type 0 where
   pub few : kept.rows ≤ length rows
   pub early : (i : ℕ) → i < kept.rows → q i ≡ false

@@ -20,4 +20,4 @@ pub returns : goal.returns
 returns c = let w : (table_of c.args.words.now).next_doc ≤ none = omega (arith, c.shared_slice_known-1.given 1, next-doc-in c.args.words.now) in
     let h = subst (Settles (sight_rungs c.args.words.now c.args.from.0)) c.in_ok-judge_sight.was c.judge_sight.ensures in
     room-settles c.args.words.now _ _ _ c.judge_sight.ensures c.in_ok-judge_sight.was _
-        (c.is_full.ensures ∙ ap (full c.args.words.now) (sym (cleared-stands c.args.words.now c.args.from.0 (examined-sound c.args.words.now c.requires.examined) c.requires.alone w (sight-sees c.args.words.now c.args.from.0 h)))) _ c.judge_room.ensures
+    (c.is_full.ensures ∙ ap (full c.args.words.now) (sym (cleared-stands c.args.words.now c.args.from.0 (examined-sound c.args.words.now c.requires.examined) c.requires.alone w (sight-sees c.args.words.now c.args.from.0 h)))) _ c.judge_room.ensures

@@ -1,7 +1,5 @@
 -- The goals of `navigates::navigate_beside` that want a word.
-use mathlib.Core.Path.{refl, subst}
-use Rattle.asks.specs.Answers.{sight_rungs}
-use Rattle.sound.specs.Check.{Settles}
+use mathlib.Core.Path.{refl}
 use Rattle.std.specs.Prelude.{Err}
 use Rattle.base.proofs.Refused.{handed-on}
 use Rattle.sound.proofs.Checks.{judged-refused}
@@ -10,6 +8,3 @@ use Rattle.navigates.proofs.navigate_beside.Goals as goal
 
 pub returns-in_err-judge_sight : goal.returns-in_err-judge_sight
 returns-in_err-judge_sight c = rw (handed-on _ _ c.from_residual.ensures.1) (judged-refused _ (Err _) (sight-judged c.args.words.now _ _ _ c.judge_sight.ensures c.in_err-judge_sight.was) _ refl)
-
-pub leave_beside-requires : goal.leave_beside-requires
-leave_beside-requires c = (c.requires, subst (Settles (sight_rungs c.args.words.now c.args.from.0)) c.in_ok-judge_sight.was c.judge_sight.ensures)
