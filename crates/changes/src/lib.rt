@@ -7,15 +7,14 @@
 
 ghost use Rattle.std.proofs.Math.Bool.{So};
 ghost use Rattle.std.specs.Prelude.{[], ◌∷◌, ◌≡◌, length};
-ghost use Rattle.rules.specs.Words.{put, rows_of};
+ghost use Rattle.rules.specs.Words.{put};
 ghost use Rattle.rules.specs.Calls.{Call, outcome};
 ghost use Rattle.sound.specs.Check.{Examined};
-ghost use Rattle.extracts.specs.Windows.{FirstOther};
 ghost use Rattle.sound.specs.Survey.{Located};
 ghost use Rattle.traverses.specs.Answers.{traversed_is};
 ghost use Rattle.changes.specs.Changes.{plain, Awaits, Follows, AwaitsOn, FollowsOn, Fits, route_text, Routes};
 
-use base::{DocNo, FrameNo, Refusal, RowPlace};
+use base::{DocNo, FrameNo, Refusal};
 use sound::{Stand, Windows};
 use traverses::{Span, Trip};
 
@@ -59,22 +58,22 @@ fn shift_alone(
     })
 }
 
-// Moves a window of a sound record of several, of which the first row of another root frame is told, by itself, and puts its flags back if it went.
+// Moves a window of a sound record of several by its own record, and puts its flags back if it went. Its words take stack only here: the compiler leaves it a function of its own.
+#[inline(never)]
 fn shift_among(
     words: &mut [u32],
     root: FrameNo,
-    first: RowPlace,
     delta: i32,
     room: usize,
 ) -> Result<Route, Refusal>
-    requires { Examined words.old × FirstOther (rows_of words.old) root.0 first.0 }
+    requires { Examined words.old }
     ensures { Routes words.old root.0 delta room result words.new }
 {
     if !extracts::has_root(words, root) {
         return Err(Refusal::NoRoot);
     }
     let mut own = [0u32; 2051];
-    extracts::take_out(words, root, first, &mut own);
+    extracts::take_out(words, root, extracts::first_other(words, root), &mut own);
     let s = extracts::stand_alone(&own);
     let trip = traverses::shift_sound(&mut own, s, delta, room)?;
     extracts::put_back(words, &own);
@@ -91,13 +90,7 @@ fn shift(words: &mut [u32], root: FrameNo, delta: i32, room: usize) -> Result<Ro
 {
     match sound::locate(words)? {
         Windows::One(s) => shift_alone(words, s, root, delta, room),
-        Windows::Several => {
-            if extracts::is_first(words, root) {
-                let first = extracts::first_other(words, root);
-                return shift_among(words, root, first, delta, room);
-            }
-            shift_among(words, root, RowPlace(0), delta, room)
-        }
+        Windows::Several => shift_among(words, root, delta, room),
     }
 }
 
@@ -115,12 +108,14 @@ fn row_between(words: &[u32], span: Span, from: FrameNo) -> ChangeRow
     }
 }
 
-// The first change row of a route in a window among others, read in that taken out; the first row of another root frame is told.
-fn row_among(words: &[u32], route: Route, first: RowPlace, from: FrameNo) -> ChangeRow
-    requires { AwaitsOn words.now route from.0 × So route.among × FirstOther (rows_of words.now) route.root.0 first.0 }
+// The first change row of a route in a window among others, read in that taken out. Its words too take stack only here.
+#[inline(never)]
+fn row_among(words: &[u32], route: Route, from: FrameNo) -> ChangeRow
+    requires { AwaitsOn words.now route from.0 × So route.among }
     ensures { FollowsOn words.now route from.0 result }
 {
     let mut own = [0u32; 2051];
+    let first = extracts::first_other(words, route.root);
     extracts::take_out(words, route.root, first, &mut own);
     row_between(&own, route.trip.span, from)
 }
@@ -130,14 +125,11 @@ fn next_row(words: &[u32], route: Route, from: FrameNo) -> ChangeRow
     requires { AwaitsOn words.now route from.0 }
     ensures { FollowsOn words.now route from.0 result }
 {
-    if !route.among {
-        return row_between(words, route.trip.span, from);
+    if route.among {
+        row_among(words, route, from)
+    } else {
+        row_between(words, route.trip.span, from)
     }
-    if extracts::is_first(words, route.root) {
-        let first = extracts::first_other(words, route.root);
-        return row_among(words, route, first, from);
-    }
-    row_among(words, route, RowPlace(0), from)
 }
 
 // Writes the change rows of a route, by rising frame number.

@@ -18,7 +18,7 @@ use Rattle.rules.specs.Steps.{step, steps}
 use Rattle.rules.specs.Windows.{is_root}
 use Rattle.rules.specs.Moves.{walked, traversed, frames, shown_doc, change_row, changes}
 use Rattle.rules.specs.Words.{put, table_of, rows_of, written}
-use Rattle.rules.specs.Calls.{Call, Answer, outside, beyond, too_short, window_in, refusals, accepted, ladder, outcome, Given}
+use Rattle.rules.specs.Calls.{Call, Answer, Outcome, outside, beyond, too_short, window_in, refusals, accepted, ladder, outcome, Given}
 use Rattle.laws.proofs.Tests.{test}
 use Rattle.laws.proofs.Central.{flags_at, central, at_length, at-doc, at-frame, at_at}
 use Rattle.laws.proofs.Travel.{walked_at}
@@ -271,6 +271,9 @@ beyond-way words room δ s x word h =
     stays words δ room Beyond (λ r root lent z. only-past words s x word r root δ lent _ _ g refl)
 
 -- An amount as it is handed on.
+pub by-amount : (words room : List ℕ) (r : ℕ) (o : Outcome) (z δ : ℤ) → z ≡ δ → outcome (Call.Traverse words r z room) ≡ o → outcome (Call.Traverse words r δ room) ≡ o
+by-amount words room r o z δ e h = subst (λ d. outcome (Call.Traverse words r d room) ≡ o) e h
+
 pub shift_by : (words words' : List ℕ) (room : ℕ) (s : Result Trip Refusal) (z δ : ℤ) → z ≡ δ → Shifts words z room s words' → Shifts words δ room s words'
 shift_by words words' room s z δ e h = subst (λ d. Shifts words d room s words') e h
 
