@@ -104,7 +104,7 @@ standing-injective = answered-injective _ (λ v. record { position = first v; st
 hider_told : List ℕ → Option DocNo
 hider_told v = cond (eqb (first v) 1) None (Some (record { 0 = get_or v 1 0 }))
 
-sight-back : (h : Option DocNo) (n : ℕ) → record { hider = hider_told (sight_told h n); links = get_or (sight_told h n) 2 0 } ≡ record { hider = h; links = n }
+sight-back : (h : Option DocNo) (n : ℕ) → ◌≡◌ {A = Sight} (record { hider = hider_told (sight_told h n); links = get_or (sight_told h n) 2 0 }) (record { hider = h; links = n })
 unfolding hider_told
 sight-back None n = refl
 sight-back (Some d) n = refl
