@@ -2,7 +2,6 @@
 use mir.Syntax.{w32}
 use mir.ValLaws.{to_z-of_z}
 use mathlib.Core.Path.{ap}
-use native.Mathlib.Omega.{arith}
 use Rattle.asks.specs.Answers.{stretch_is}
 use Rattle.frame_history.proofs.Bounds.{stretch-small, small-count}
 use Rattle.frame_history.proofs.frame_history_stretch.Goals as goal

@@ -1,7 +1,7 @@
 -- The goals of `texts::put_tab` that want a word.
 use native.Mathlib.Omega.{arith}
 use Rattle.lines.specs.declared.Reply.TheVariants as Replies
-use Rattle.texts.proofs.Enough.{small, room_for, written-short}
+use Rattle.texts.proofs.Enough.{room_for, written-short}
 use Rattle.texts.proofs.put_tab.Goals as goal
 
 pub put_answer-requires : goal.put_answer-requires
