@@ -72,13 +72,15 @@ pub fn belongs(words: &[u32], at: RowPlace, root: FrameNo, known: Known) -> Memb
         let inside = reads::frame(words, at) == root;
         return Member { inside, known };
     }
-    if up == known.within {
+    let within = known.within;
+    if up == within {
         return Member {
             inside: true,
             known,
         };
     }
-    if up == known.outside {
+    let outside = known.outside;
+    if up == outside {
         return Member {
             inside: false,
             known,
