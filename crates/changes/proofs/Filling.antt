@@ -7,7 +7,9 @@ use native.Mathlib.Omega.{arith}
 use lib.IntN.{ℤ}
 use mir.Syntax.{w32}
 use mir.Val.{bool_byte, Fits as FitsIn}
-use lib.ListN.{length, get_or, set, length-set, length-append}
+use lib.ListN.{length, get_or, set, take, drop}
+use lib.Seq.{sets-eq, take-length}
+use Rattle.std.proofs.lemmas.List.{length-take-le, take_more_set}
 use Rattle.std.specs.Prelude.{Option, Some, Ok, Err}
 use Rattle.base.specs.declared.DocNo.{DocNo}
 use Rattle.base.specs.declared.Refusal.{Refusal}
@@ -16,7 +18,6 @@ use Rattle.rules.specs.Steps.{visible_at}
 use Rattle.rules.specs.Words.{put, table_of, rows_of}
 use Rattle.rules.specs.Calls.{Call, outcome}
 use Rattle.laws.proofs.Words.{next-frame-in}
-use Rattle.laws.proofs.Writes.{put-none, put-put, put_four}
 use Rattle.traverses.specs.declared.Change.{Change}
 use Rattle.traverses.specs.Answers.{traversed_is}
 use Rattle.traverses.specs.Texts.{FirstChange, NextChange}
@@ -24,7 +25,7 @@ use Rattle.rows.specs.Readable.{readable_rows}
 use Rattle.traverses.proofs.Texts.{none-before, text-whole, climbed}
 use Rattle.changes.specs.declared.ChangeRow.{ChangeRow}
 use Rattle.changes.specs.declared.Route.{Route}
-use Rattle.changes.specs.Changes.{row_text, plain, Awaits, Follows, read_in, route_text, route_below, FollowsOn, Fits, Routed, Routes}
+use Rattle.changes.specs.Changes.{row_text, plain, Awaits, Follows, read_in, route_text, route_below, AwaitsOn, FollowsOn, Fits, Routed, Routes}
 
 -- ROWS AND WORDS
 
@@ -33,21 +34,16 @@ unfolding plain
 length-plain [] = refl
 length-plain (r ∷ rows) = omega (arith, length-plain rows)
 
--- A row set is its four words put.
-set-four : (rows : List ChangeRow) (i : ℕ) (r : ChangeRow) →
-    plain (set rows i r) ≡ set (set (set (set (plain rows) (4 * i) r.frame.0) (4 * i + 1) r.before.0) (4 * i + 2) r.after.0) (4 * i + 3) r.load
+pub plain-append : (xs ys : List ChangeRow) → plain (xs ++ ys) ≡ plain xs ++ plain ys
 unfolding plain
-set-four [] i r = refl
-set-four (x ∷ rows) zero r = refl
-set-four (x ∷ rows) (suc i) r =
-    let a : 4 * suc i ≡ suc (suc (suc (suc (4 * i)))) = omega arith in
-    let b : 4 * suc i + 1 ≡ suc (suc (suc (suc (4 * i + 1)))) = omega arith in
-    let c : 4 * suc i + 2 ≡ suc (suc (suc (suc (4 * i + 2)))) = omega arith in
-    let d : 4 * suc i + 3 ≡ suc (suc (suc (suc (4 * i + 3)))) = omega arith in
-    ap (λ l. x.frame.0 ∷ x.before.0 ∷ x.after.0 ∷ x.load ∷ l) (set-four rows i r) ∙ rw (d, c, b, a) refl
+plain-append [] ys = refl
+plain-append (x ∷ xs) ys = ap (λ l. x.frame.0 ∷ x.before.0 ∷ x.after.0 ∷ x.load ∷ l) (plain-append xs ys)
 
-pub plain-set : (rows : List ChangeRow) (i : ℕ) (r : ChangeRow) → plain (set rows i r) ≡ put (plain rows) (4 * i) (row_text r)
-plain-set rows i r = set-four rows i r ∙ put_four (plain rows) (4 * i) r.frame.0 r.before.0 r.after.0 r.load
+pub plain-drop : (n : ℕ) (rows : List ChangeRow) → drop (4 * n) (plain rows) ≡ plain (drop n rows)
+unfolding plain
+plain-drop zero rows = refl
+plain-drop (suc n) [] = let e : 4 * suc n ≡ suc (suc (suc (suc (4 * n)))) = omega arith in rw e refl
+plain-drop (suc n) (r ∷ rows) = let e : 4 * suc n ≡ suc (suc (suc (suc (4 * n)))) = omega arith in rw e (plain-drop n rows)
 
 -- Rows with the same words are the same.
 pub plain-same : (rows rows' : List ChangeRow) → plain rows ≡ plain rows' → rows ≡ rows'
@@ -88,44 +84,49 @@ module _ (words : List ℕ) (a b from : ℕ) (h : Awaits words a b from) where
 
 -- THE LOOP
 
--- i rows are filled, with the route's change rows of the frames numbered below f.
-pub record Filled (words : List ℕ) (route : Route) (old new : List ChangeRow) (i f : ℕ) : Type 0 where
-  pub upto : i ≤ route.trip.count
+-- The first i of these rows are filled, with the route's change rows of the frames numbered below f.
+pub record Filled (words : List ℕ) (route : Route) (rows : List ChangeRow) (i f : ℕ) : Type 0 where
   pub within : f ≤ (table_of (read_in words route)).next_frame
-  pub size : 4 * i ≡ length (route_below words route f)
-  pub same_length : length new ≡ length old
-  pub filled : plain new ≡ put (plain old) 0 (route_below words route f)
+  pub filled : plain (take i rows) ≡ route_below words route f
 
-module _ (words : List ℕ) (route : Route) (old : List ChangeRow) (h : Fits words route (length old)) where
-  pub filled-starts : Filled words route old old 0 route.trip.first.0
+module _ (words : List ℕ) (route : Route) (room : ℕ) (h : Fits words route room) (rows : List ChangeRow) where
+  pub filled-starts : Filled words route rows 0 route.trip.first.0
+  unfolding plain
   filled-starts =
       let x = h.arrived.foremost in
-      let e = none-before (table_of (read_in words route)) route.trip.span.before.0 route.trip.span.after.0 route.trip.first.0 x in
-      record { upto = omega arith; within = x.0.within; size = ap length (sym e); same_length = refl; filled = put-none (plain old) 0 ∙ ap (put (plain old) 0) (sym e) }
+      record { within = x.0.within; filled = sym (none-before (table_of (read_in words route)) route.trip.span.before.0 route.trip.span.after.0 route.trip.first.0 x) }
 
-  module _ (new : List ChangeRow) (i f : ℕ) (s : Filled words route old new i f) where
-    pub filled_more : (r : ChangeRow) → i < route.trip.count → FollowsOn words route f r → (g : ℕ) → g ≡ r.frame.0 + 1 → Filled words route old (set new i r) (i + 1) g
-    filled_more r l x g e =
-        let z = s.size in
-        let b = x.below in
-        let t : route_below words route g ≡ route_below words route f ++ row_text r = ap (route_below words route) e ∙ x.more in
-        let j : 4 * i ≡ 0 + length (route_below words route f) = omega arith in
-        record {
-          upto = omega arith;
-          within = omega arith;
-          size = omega (arith, ap length t, length-append (route_below words route f) (row_text r));
-          same_length = length-set new i r ∙ s.same_length;
-          filled = plain-set new i r ∙ ap (λ l. put l (4 * i) (row_text r)) s.filled ∙ ap (λ k. put (put (plain old) 0 (route_below words route f)) k (row_text r)) j
-              ∙ put-put (route_below words route f) (row_text r) (plain old) 0 ∙ ap (put (plain old) 0) (sym t);
-        }
+  module _ (i f : ℕ) (s : Filled words route rows i f) (all : length rows ≡ route.trip.count) where
+    size : i ≤ length rows → 4 * i ≡ length (route_below words route f)
+    size l = omega (arith, length-plain (take i rows), length-take-le i rows l, ap length s.filled)
 
-    pub filled-ends : route.trip.count ≤ i → plain new ≡ put (plain old) 0 (route_text words route)
-    filled-ends l =
+    pub filled-awaits : i < length rows → AwaitsOn words route f
+    filled-awaits l =
         let z = h.arrived.sized in
-        let y = s.size in
-        let u = s.upto in
+        let y = size (omega arith) in
+        record { examined = h.examined; awaits = record { ready = h.arrived.ready; upto = s.within; some = omega arith } }
+
+    pub filled_more : (r : ChangeRow) → i < length rows → FollowsOn words route f r → Filled words route (set rows i r) (i + 1) (r.frame.0 + 1)
+    unfolding plain
+    filled_more r l x =
+        let b = x.below in
+        record { within = omega arith; filled = ap plain (take_more_set rows i r l) ∙ plain-append (take i rows) (r ∷ []) ∙ ap (λ t. t ++ row_text r) s.filled ∙ sym x.more }
+
+    pub filled-ends : i ≡ length rows → (old : List ChangeRow) → room ≡ length old → plain (rows ++ drop route.trip.count old) ≡ put (plain old) 0 (route_text words route)
+    unfolding put
+    filled-ends e old q =
+        let z = h.arrived.sized in
+        let y = size (omega arith) in
+        let l = length-plain old in
+        let fits = h.arrived.fits in
+        let n = route.trip.count in
+        let text = route_text words route in
         let read = read_in words route in
-        s.filled ∙ ap (put (plain old) 0) (text-whole (rows_of read) route.trip.span.before.0 route.trip.span.after.0 (table_of read).next_frame f s.within (omega arith))
+        let whole : plain rows ≡ text =
+        ap plain (sym (take-length rows) ∙ ap (λ k. take k rows) (sym e)) ∙ s.filled
+        ∙ text-whole (rows_of read) route.trip.span.before.0 route.trip.span.after.0 (table_of read).next_frame f s.within (omega arith) in
+        let v : 4 * n ≡ 0 + length text = omega arith in
+        plain-append rows (drop n old) ∙ ap (λ t. t ++ plain (drop n old)) whole ∙ ap (λ t. text ++ t) (sym (plain-drop n old)) ∙ ap (λ k. text ++ drop k (plain old)) v ∙ sym (sets-eq text (plain old) 0 (omega arith))
 
 -- THE CALLER
 

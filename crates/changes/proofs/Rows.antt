@@ -19,18 +19,7 @@ use Rattle.base.specs.declared.Refusal.{Refusal}
 use Rattle.traverses.specs.Answers.{traversed_is}
 use Rattle.changes.specs.declared.ChangeRow.{ChangeRow}
 use Rattle.changes.specs.Changes.{plain, change_in, changes_of}
-use Rattle.changes.proofs.Filling.{length-plain, plain-same}
-
-plain-append : (xs ys : List ChangeRow) → plain (xs ++ ys) ≡ plain xs ++ plain ys
-unfolding plain
-plain-append [] ys = refl
-plain-append (x ∷ xs) ys = ap (λ l. x.frame.0 ∷ x.before.0 ∷ x.after.0 ∷ x.load ∷ l) (plain-append xs ys)
-
-plain-drop : (n : ℕ) (rows : List ChangeRow) → drop (4 * n) (plain rows) ≡ plain (drop n rows)
-unfolding plain
-plain-drop zero rows = refl
-plain-drop (suc n) [] = let e : 4 * suc n ≡ suc (suc (suc (suc (4 * n)))) = omega arith in rw e refl
-plain-drop (suc n) (r ∷ rows) = let e : 4 * suc n ≡ suc (suc (suc (suc (4 * n)))) = omega arith in rw e (plain-drop n rows)
+use Rattle.changes.proofs.Filling.{length-plain, plain-append, plain-drop, plain-same}
 
 plain_flat : (g : ℕ → List ChangeRow) (h : ℕ → List ℕ) → ((f : ℕ) → plain (g f) ≡ h f) → (xs : List ℕ) → plain (flat_map g xs) ≡ flat_map h xs
 unfolding plain flat_map

@@ -133,10 +133,9 @@ fn fill(rows: &mut [ChangeRow], words: &[u32], route: Route)
     ensures { plain rows.new ≡ put (plain rows.old) 0 (route_text words.now route) }
 {
     let mut from = route.trip.first;
-    for i in 0..route.trip.count {
-        let row = next_row(words, route, from);
+    for row in &mut rows[..route.trip.count] {
+        *row = next_row(words, route, from);
         from = FrameNo(row.frame.0 + 1);
-        rows[i] = row;
     }
 }
 

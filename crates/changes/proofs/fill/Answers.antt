@@ -1,14 +1,22 @@
 -- The goals of `changes::fill` that want a word.
-use mathlib.Core.Path.{refl}
-use Rattle.changes.proofs.Filling.{filled-starts, filled_more, filled-ends}
+use mathlib.Core.Path.{◌≡◌, refl}
+use native.Mathlib.Omega.{arith}
+use lib.ListN.{length}
+use Rattle.std.proofs.lemmas.List.{length-take-le}
+use Rattle.changes.proofs.Filling.{filled-starts, filled-awaits, filled_more, filled-ends}
 use Rattle.changes.proofs.fill.Goals as goal
 
-pub loop-i-init : goal.loop-i-init
-loop-i-init c = filled-starts _ _ _ c.requires
+pub loop-row-init : goal.loop-row-init
+loop-row-init c = filled-starts _ _ _ c.requires _
 
-pub loop-i-preserved : goal.loop-i-preserved
-loop-i-preserved c =
-    filled_more c.args.words.now c.args.route c.args.rows.now c.requires _ _ _ c.loop-i.invariant _ c.loop-i-test.true c.next_row-row.ensures _ refl
+pub next_row-requires : goal.next_row-requires
+next_row-requires c = let e = length-take-le c.args.route.trip.count c.args.rows.now c.requires.arrived.fits in
+    filled-awaits _ _ _ c.requires _ _ _ c.loop-row.invariant (omega arith) (omega (arith, c.loop-row-test.true))
+
+pub loop-row-preserved : goal.loop-row-preserved
+loop-row-preserved c = let e = length-take-le c.args.route.trip.count c.args.rows.now c.requires.arrived.fits in
+    filled_more _ _ _ c.requires _ _ _ c.loop-row.invariant (omega arith) _ (omega (arith, c.loop-row-test.true)) c.next_row.ensures
 
 pub returns : goal.returns
-returns c = filled-ends c.args.words.now c.args.route c.args.rows.now c.requires _ _ _ c.loop-i.invariant c.loop-i-test.false
+returns c = let e = length-take-le c.args.route.trip.count c.args.rows.now c.requires.arrived.fits in
+    filled-ends _ _ _ c.requires _ _ _ c.loop-row.invariant (omega arith) (omega (arith, c.loop-row-test.false)) c.args.rows.now refl
