@@ -9,7 +9,7 @@ use Rattle.base.specs.declared.RowPlace.{RowPlace}
 use Rattle.rules.specs.Rows.{Row, none, frame_at, parent_at, is_doc}
 use Rattle.rules.specs.Windows.{root_at}
 use Rattle.reads.specs.Found.{found_below}
-use Rattle.std.specs.Prelude.{Option, None, Some}
+use Rattle.std.specs.Prelude.{Bool, Option, None, Some}
 use Rattle.reads.proofs.Scans.{found_at, found_nothing}
 use Rattle.navigates.specs.declared.Side.{Side}
 use Rattle.navigates.specs.declared.Side.TheVariants.{Lost}
@@ -17,9 +17,9 @@ use Rattle.navigates.specs.Sides.{side_if, doc_side, side_of}
 
 -- By the row that holds the document.
 module _ (r : ℕ) (rows : List Row) (k d : ℕ) (f : Option RowPlace) (scan : f ≡ found_below (is_doc rows d) k) where
-  pub doc-found : (q : RowPlace) (g : ℕ) (s : Side) → f ≡ Some q → g ≡ root_at rows q.0 → s ≡ side_if (eqb g r) → s ≡ doc_side r rows k d
+  pub doc-found : (q : RowPlace) (g : ℕ) (b : Bool) → f ≡ Some q → g ≡ root_at rows q.0 → b ≡ eqb g r → side_if b ≡ doc_side r rows k d
   unfolding doc_side
-  doc-found q g s e h t = let a = found_at (is_doc rows d) k q (sym scan ∙ e) in t ∙ rw (a.0, a.1, h) refl
+  doc-found q g b e h t = let a = found_at (is_doc rows d) k q (sym scan ∙ e) in rw (t, a.0, a.1, h) refl
 
   pub doc-lost : f ≡ None → Lost ≡ doc_side r rows k d
   unfolding doc_side
@@ -27,9 +27,9 @@ module _ (r : ℕ) (rows : List Row) (k d : ℕ) (f : Option RowPlace) (scan : f
 
 module _ (r : ℕ) (rows : List Row) (k i up : ℕ) (named : up ≡ parent_at rows i) where
   -- A row without a parent.
-  pub side-top : up ≡ none → (f : ℕ) (s : Side) → f ≡ frame_at rows i → s ≡ side_if (eqb f r) → s ≡ side_of r rows k i
+  pub side-top : up ≡ none → (f : ℕ) (b : Bool) → f ≡ frame_at rows i → b ≡ eqb f r → side_if b ≡ side_of r rows k i
   unfolding side_of
-  side-top z f s e t = t ∙ rw (eq-eqb (parent_at rows i) none (sym named ∙ z), e) refl
+  side-top z f b e t = rw (t, eq-eqb (parent_at rows i) none (sym named ∙ z), e) refl
 
   module _ (some : up ≡ none → ⊥) where
     -- One beneath a document that was looked at.

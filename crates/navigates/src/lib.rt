@@ -21,7 +21,7 @@ ghost use Rattle.packs.specs.Packing.{Over};
 ghost use Rattle.asks.specs.Answers.{sight_rungs};
 ghost use Rattle.navigates.specs.Answers.{navigated_is, room_rungs};
 ghost use Rattle.navigates.specs.Packing.{joins, removal_end, Ends, settled};
-ghost use Rattle.navigates.specs.Sides.{side_if, doc_side, side_of, recalled, Recalls, Turned};
+ghost use Rattle.navigates.specs.Sides.{doc_side, side_of, recalled, Recalls, Turned};
 
 use base::{DocNo, FrameNo, Refusal, Row, RowPlace};
 use sound::{Stand, Windows};
@@ -197,20 +197,14 @@ struct Sides {
     missed: DocNo,
 }
 
-// Within or outside.
-fn side_if(within: bool) -> Side
-    ensures { result ≡ side_if within }
-{
-    if within { Side::Within } else { Side::Outside }
-}
-
 // Where what lies in a document stands to a window, with the one of the first k rows that holds it.
 fn doc_side(words: &[u32], k: usize, root: FrameNo, d: DocNo) -> Side
     requires { Before words.now k }
     ensures { result ≡ doc_side root.0 (rows_of words.now) k d.0 }
 {
     match reads::find_below(words, RowPlace(k), d) {
-        Some(above) => side_if(reads::root_of(words, above) == root),
+        Some(above) if reads::root_of(words, above) == root => Side::Within,
+        Some(_) => Side::Outside,
         None => Side::Lost,
     }
 }
@@ -222,7 +216,11 @@ fn side_of(words: &[u32], at: RowPlace, k: usize, root: FrameNo, known: Sides) -
 {
     let up = reads::parent(words, at);
     if up == DocNo::NONE {
-        return side_if(reads::frame(words, at) == root);
+        return if reads::frame(words, at) == root {
+            Side::Within
+        } else {
+            Side::Outside
+        };
     }
     if up == known.within {
         return Side::Within;
