@@ -37,7 +37,7 @@ length-plain (r ∷ rows) = omega (arith, length-plain rows)
 pub plain-append : (xs ys : List ChangeRow) → plain (xs ++ ys) ≡ plain xs ++ plain ys
 unfolding plain
 plain-append [] ys = refl
-plain-append (x ∷ xs) ys = ap (λ l. x.frame.0 ∷ x.before.0 ∷ x.after.0 ∷ x.load ∷ l) (plain-append xs ys)
+plain-append (x ∷ xs) ys = let e = plain-append xs ys in cc
 
 pub plain-drop : (n : ℕ) (rows : List ChangeRow) → drop (4 * n) (plain rows) ≡ plain (drop n rows)
 unfolding plain
