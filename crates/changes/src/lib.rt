@@ -60,12 +60,7 @@ fn shift_alone(
 
 // Moves a window of a sound record of several by its own record, and puts its flags back if it went. Its words take stack only here: the compiler leaves it a function of its own.
 #[inline(never)]
-fn shift_among(
-    words: &mut [u32],
-    root: FrameNo,
-    delta: i32,
-    room: usize,
-) -> Result<Route, Refusal>
+fn shift_among(words: &mut [u32], root: FrameNo, delta: i32, room: usize) -> Result<Route, Refusal>
     requires { Examined words.old }
     ensures { Routes words.old root.0 delta room result words.new }
 {
