@@ -1,4 +1,4 @@
--- Change rows as plain words: one row set, and the rows one by one. Assumes nothing.
+-- Change rows as plain words: rows joined and left out, the next row, and the rows filled one by one. Assumes nothing.
 use Prim.Native.Nat.{ℕ, zero, suc, ◌+◌, ◌*◌, ◌/◌, ◌≤◌, ◌<◌}
 use mathlib.Core.Bool.{Bool}
 use mathlib.Core.List.{List, [], ◌∷◌, ◌++◌}
