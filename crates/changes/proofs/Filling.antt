@@ -1,4 +1,4 @@
--- Change rows as plain words: one row set, and the rows one by one. Assumes nothing.
+-- Change rows as plain words: rows joined and left out, the next row, and the rows filled one by one. Assumes nothing.
 use Prim.Native.Nat.{ℕ, zero, suc, ◌+◌, ◌*◌, ◌/◌, ◌≤◌, ◌<◌}
 use mathlib.Core.Bool.{Bool}
 use mathlib.Core.List.{List, [], ◌∷◌, ◌++◌}
@@ -37,7 +37,7 @@ length-plain (r ∷ rows) = omega (arith, length-plain rows)
 pub plain-append : (xs ys : List ChangeRow) → plain (xs ++ ys) ≡ plain xs ++ plain ys
 unfolding plain
 plain-append [] ys = refl
-plain-append (x ∷ xs) ys = ap (λ l. x.frame.0 ∷ x.before.0 ∷ x.after.0 ∷ x.load ∷ l) (plain-append xs ys)
+plain-append (x ∷ xs) ys = let e = plain-append xs ys in cc
 
 pub plain-drop : (n : ℕ) (rows : List ChangeRow) → drop (4 * n) (plain rows) ≡ plain (drop n rows)
 unfolding plain

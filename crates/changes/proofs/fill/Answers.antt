@@ -1,7 +1,6 @@
 -- The goals of `changes::fill` that want a word.
-use mathlib.Core.Path.{◌≡◌, refl}
+use mathlib.Core.Path.{refl}
 use native.Mathlib.Omega.{arith}
-use lib.ListN.{length}
 use Rattle.std.proofs.lemmas.List.{length-take-le}
 use Rattle.changes.proofs.Filling.{filled-starts, filled-awaits, filled_more, filled-ends}
 use Rattle.changes.proofs.fill.Goals as goal
