@@ -1,22 +1,26 @@
 -- Scans downwards for the latest row that passes. Assumes nothing.
-use Prim.Native.Nat.{ℕ, suc, max, ◌+◌, ◌≤◌, ◌<◌}
+use Prim.Native.Nat.{ℕ, suc, max, ◌+◌, ◌-◌, ◌*◌, ◌≤◌, ◌<◌}
 use mathlib.Core.Bool.{Bool, true, false, So}
 use mathlib.Core.List.{List}
 use mathlib.Core.Logic.{⊎_elim}
 use mathlib.Core.Path.{◌≡◌, refl, sym, ap, subst, ◌∙◌}
 use native.Mathlib.Numerals.{add-one}
 use native.Mathlib.Omega.{arith}
+use lib.Dec.{eqb}
+use lib.ListN.{length, get_or}
 use mir.Syntax.{w64}
 use mir.Val.{Fits, bool_byte}
 use borrow.Author.Tests.{eqb-true}
 use Rattle.rules.specs.Below.{some_below, latest}
-use Rattle.rules.specs.Rows.{Row, frame_at, in_frame}
+use Rattle.rules.specs.Rows.{Row, frame_at, is_doc, in_frame}
+use Rattle.rules.specs.Words.{rows_of}
 use Rattle.rules.specs.Steps.{same, step}
-use Rattle.laws.proofs.Tests.{test, off, below-cases, some_in, some_out, latest-out}
+use Rattle.laws.proofs.Tests.{test, off, below-cases, some_in, some_out, some_same, latest-out, latest-same}
+use Rattle.laws.proofs.Words.{doc-in, frame-in}
 use Rattle.laws.proofs.Loops.{count-within}
 use Rattle.reads.specs.Found.{found_below}
 use Rattle.base.specs.declared.RowPlace.{RowPlace}
-use Rattle.reads.specs.Within.{Within}
+use Rattle.reads.specs.Within.{Within, is_word, has_word}
 use Rattle.reads.specs.Under.{Under}
 use Rattle.std.specs.Prelude.{Option, None, Some}
 use Rattle.std.specs.Option.{is_some}
@@ -37,8 +41,12 @@ module _ (p : ℕ → Bool) where
   found_here n j i b h e f t = here i (sym f ∙ t) ∙ sym (h ∙ ap (found_below p) e)
 
   -- Place i, the last before j, fails too.
-  pub found-on : (n j i : ℕ) (b : Bool) → found_below p n ≡ found_below p j → j ≡ suc i → b ≡ p i → b ≡ false → found_below p n ≡ found_below p i
+  found-on : (n j i : ℕ) (b : Bool) → found_below p n ≡ found_below p j → j ≡ suc i → b ≡ p i → b ≡ false → found_below p n ≡ found_below p i
   found-on n j i b h e f t = h ∙ ap (found_below p) e ∙ on i (sym f ∙ t)
+
+  -- The row just before place n has failed by itself.
+  pub found-past : (n : ℕ) (r : Option RowPlace) → p (n - 1) ≡ false → 0 < n → r ≡ found_below p (n - 1) → r ≡ found_below p n
+  found-past n r f l e = e ∙ sym (found-on n n (n - 1) false refl (omega arith) (sym f) refl)
 
   -- No place up to n passes.
   pub found-end : (n j : ℕ) → found_below p n ≡ found_below p j → j ≡ 0 → None ≡ found_below p n
@@ -69,6 +77,41 @@ module _ (p : ℕ → Bool) where
   pub found-told : (n : ℕ) (r : Option RowPlace) → r ≡ found_below p n → is_some r ≡ some_below n p
   found-told n None e = none_found n None e refl
   found-told n (Some q) e = some-found n (Some q) q e refl
+
+-- Tests that agree on the places before n find the same.
+found-same : (p q : ℕ → Bool) (n : ℕ) → ((k : ℕ) → k < n → p k ≡ q k) → found_below p n ≡ found_below q n
+unfolding found_below
+found-same p q n h = rw (some_same p q n h, latest-same p q n h)
+
+-- THE ROWS' WORDS
+
+module _ (words : List ℕ) (back v : ℕ) where
+  -- The word tried, k, is that of row i, the last before place j; it has the value.
+  pub word-here : (n j i k : ℕ) (b : Bool) →
+      found_below (has_word words back v) n ≡ found_below (has_word words back v) j → b ≡ is_word words v k → b ≡ true → j ≡ suc i → k ≡ 4 * i + 4 - back →
+      Some (record { 0 = i }) ≡ found_below (has_word words back v) n
+  unfolding has_word
+  word-here n j i k b h f t e w = found_here _ n j i b h e (f ∙ ap (is_word words v) w) t
+
+  -- That word has another value.
+  pub word_on : (n j i k : ℕ) (b : Bool) →
+      found_below (has_word words back v) n ≡ found_below (has_word words back v) j → b ≡ is_word words v k → b ≡ false → j ≡ suc i → k ≡ 4 * i + 4 - back →
+      found_below (has_word words back v) n ≡ found_below (has_word words back v) i
+  unfolding has_word
+  word_on n j i k b h f t e w = found-on _ n j i b h e (f ∙ ap (is_word words v) w) t
+
+module _ (words : List ℕ) where
+  -- The word just before the frame is the document.
+  pub found-document : (n d : ℕ) (r : Option RowPlace) → n ≤ length (rows_of words) → r ≡ found_below (has_word words 1 d) n → r ≡ found_below (is_doc (rows_of words) d) n
+  unfolding has_word
+  found-document n d r l h =
+      h ∙ found-same _ _ n (λ i m. let e : 4 * i + 4 - 1 ≡ 3 + 4 * i = omega arith in ap (λ x. eqb x d) (ap (λ k. get_or words k 0) e ∙ doc-in words i (omega arith)))
+
+  -- The word no words before the frame is the frame itself.
+  pub found-frame : (n f : ℕ) (r : Option RowPlace) → n ≤ length (rows_of words) → r ≡ found_below (has_word words 0 f) n → r ≡ found_below (in_frame (rows_of words) f) n
+  unfolding has_word
+  found-frame n f r l h =
+      h ∙ found-same _ _ n (λ i m. let e : 4 * i + 4 - 0 ≡ 4 + 4 * i = omega arith in ap (λ x. eqb x f) (ap (λ k. get_or words k 0) e ∙ frame-in words i (omega arith)))
 
 -- A BOUND ON FRAME NUMBERS
 
