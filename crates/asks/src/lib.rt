@@ -127,8 +127,7 @@ pub fn visible(words: &[u32], d: DocNo) -> Result<Sight, Refusal>
 
 // Refusals 4 and 5, of a sound record: the document is there, and visible.
 pub fn judge_sight(words: &[u32], d: DocNo) -> Result<(), Refusal>
-    requires { Examined words.now }
-    ensures { Settles (sight_rungs words.now d.0) result }
+    ensures { Examined words.now → Settles (sight_rungs words.now d.0) result }
 {
     match seen(words, d)?.hider {
         Some(h) => Err(Refusal::Hidden(h)),

@@ -132,7 +132,10 @@ fn stand(rt: &impl Print, words: &[u32]) -> io::Result<()> {
             say_documents(rt, words)?;
             println!(rt; "")
         }
-        Err(r) => println!(rt; "  position: refused {r}"),
+        Err(r) => {
+            print!(rt; "  position: ")?;
+            println!(rt; "refused {r}")
+        }
     }
 }
 

@@ -52,7 +52,7 @@ module _ (r : Refusal) (k p s : ℕ) (is : k ≡ number_of r) (c : Option DocNo)
     abbrev hider : List ℕ
     hider = (32 ∷ 97 ∷ 116 ∷ []) ++ end_text d.0 p s
 
-    denied-with : denied_text (number_of r) (carried_by r) p s ≡ (110 ∷ 111 ∷ []) ++ ((32 ∷ decimal k) ++ hider)
+    pub denied-with : denied_text (number_of r) (carried_by r) p s ≡ (110 ∷ 111 ∷ []) ++ ((32 ∷ decimal k) ++ hider)
     unfolding denied_text status_text
     denied-with = rw (sym is, sym told, e) refl
 

@@ -46,7 +46,7 @@ module _ (text : List ℕ) (w : ℕ) (k : Option ℕ) where
   going_forth h e = let m : minus? text ≡ false = sym (minus_is text) ∙ h in rw (m, e) refl
 
 -- A part to the end.
-to_end : (text : List ℕ) (i : ℕ) → i ≤ length text → take (length text - i) (drop i text) ≡ drop i text
+pub to_end : (text : List ℕ) (i : ℕ) → i ≤ length text → take (length text - i) (drop i text) ≡ drop i text
 to_end text i l = take_all (length text - i) (drop i text) (omega (arith, length-drop i text))
 
 module _ (text : List ℕ) where

@@ -29,7 +29,7 @@ module _ (text : List ℕ) where
   spelled-more i n d e f = rw (add-one i) (omega arith)
 
   -- More digits spell no less.
-  spelled-rises : (i k : ℕ) → spelled text i ≤ spelled text (i + k)
+  pub spelled-rises : (i k : ℕ) → spelled text i ≤ spelled text (i + k)
   unfolding spelled
   spelled-rises i zero = let e : i + 0 ≡ i = omega arith in rw e (omega arith)
   spelled-rises i (suc k) = let h = spelled-rises i k in let e : i + suc k ≡ suc (i + k) = omega arith in rw e (omega arith)

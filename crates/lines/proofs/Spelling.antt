@@ -85,7 +85,7 @@ decimal-leads n =
     (λ p. let f = (spells n).first p in test (ltb 1 (length (decimal n))) (λ t. rw t (ne_eqb (get_or (decimal n) 0 0) 48 (λ e. omega arith))) (λ t. rw t refl))
     (λ z. let e = decimal-one n (omega arith) in rw e refl)
 
-decimal-shaped : (n : ℕ) → decimal? (decimal n) ≡ true
+pub decimal-shaped : (n : ℕ) → decimal? (decimal n) ≡ true
 unfolding decimal?
 decimal-shaped n =
     let s = spells n in
@@ -135,7 +135,7 @@ module _ (text : List ℕ) (shape : decimal? text ≡ true) where
       take-suc text (suc j) 0 l ∙ ap (λ t. t ++ (b ∷ [])) (front j (omega arith))
       ∙ sym (decimal-more n (omega arith) ∙ ap (λ k. decimal k ++ ((48 + n % 10) ∷ [])) q ∙ ap (λ c. decimal x ++ (c ∷ [])) r)
 
-  shaped-decimal : text ≡ decimal (spelled text (length text))
+  pub shaped-decimal : text ≡ decimal (spelled text (length text))
   shaped-decimal =
       let e : suc (length text - 1) ≡ length text = let l = long in omega arith in
       let l = long in

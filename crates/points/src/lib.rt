@@ -7,12 +7,12 @@ ghost use Rattle.std.specs.Float.Ieee.{of_bits, to_bits};
 ghost use Rattle.rules.specs.Places.{finite, finite_place, scaled};
 ghost use Rattle.points.specs.Points.{place_given};
 
-// Whether a double is neither NaN nor infinite.
-#[tactic(auto, using(crate::proofs::Points::finite_is))]
+// Whether a double is neither NaN nor infinite: a NaN is neither above nor below anything. The two comparisons raise no flag of the host's; `x.is_finite()`
+// takes the infinity from itself, which is an invalid operation, and a host that traps these would be ended.
 pub fn is_finite(x: f64) -> bool
     ensures { result ≡ finite x }
 {
-    x.is_finite()
+    (f64::NEG_INFINITY < x) & (x < f64::INFINITY)
 }
 
 // Whether bits are those of a finite double: without the sign they lie below those of the infinity.
@@ -54,13 +54,12 @@ pub enum Place {
 }
 
 // Whether no coordinate of a place is NaN or infinite.
-#[tactic(auto, using(crate::proofs::Points::finite_is))]
 pub fn is_finite_place(place: Place) -> bool
     ensures { result ≡ finite_place (place_given place) }
 {
     match place {
         Place::Itself => true,
-        Place::At(p) => p.x.is_finite() && p.y.is_finite(),
+        Place::At(p) => is_finite(p.x) && is_finite(p.y),
     }
 }
 

@@ -2,7 +2,7 @@
 use Rattle.std.proofs.Common.{ℕ, ◌≡◌, ◌+◌, ◌-◌, ◌≤◌, List, ◌++◌, length, take, drop, replicate, sym, ap, ◌∙◌, arith}
 use Rattle.std.proofs.lemmas.List.Edits.{sets-eq}
 use borrow.Rule.Slice.PartMut.{mid_of, put_mid, mid_len, Post-is}
-use Rattle.std.proofs.lemmas.List.{append_assoc}
+use Rattle.std.proofs.lemmas.List.{append_assoc, take_all}
 use lib.ListN.{length-replicate}
 use lib.Seq.{length-take-le}
 use Rattle.rules.specs.Words.{put}
@@ -20,6 +20,12 @@ module _ (l vs : List ℕ) where
   -- The words up to a place are these.
   pub put_front : (to : ℕ) → to ≤ length l → length vs ≡ to → vs ++ drop to l ≡ put l 0 vs
   put_front to g e = parts 0 to (omega arith) g
+
+-- Words of which the first i are zero, and which are no more than i, are all zero.
+pub all_zero : (l : List ℕ) (i n : ℕ) → length l ≡ n → n ≤ i → take i l ≡ replicate i 0 → l ≡ replicate n 0
+all_zero l i n e g z =
+    let all : l ≡ replicate i 0 = sym (take_all i l (omega (arith, e, g))) ∙ z in
+    all ∙ ap (λ m. replicate m 0) (sym (length-replicate i 0) ∙ ap length (sym all) ∙ e)
 
 -- The words from one place up to another are zero.
 pub clear_part : (l new : List ℕ) (from to : ℕ) → from ≤ to → to ≤ length l → new ≡ replicate (length (mid_of from (to - from) l)) 0 →

@@ -54,7 +54,9 @@ pub fn clear(words: &mut [u32], from: usize, to: usize)
     requires { (from ≤ to) × (to ≤ length words.old) }
     ensures { words.new ≡ put words.old from (replicate (to - from) 0) }
 {
-    words[from..to].fill(0);
+    for word in &mut words[from..to] {
+        *word = 0;
+    }
 }
 
 // Stores a value at a place, where there is one.

@@ -14,10 +14,10 @@ use Rattle.navigates.proofs.Judges.{sight-judged, sight-sees, room-settles, clea
 use Rattle.navigates.proofs.judge.Goals as goal
 
 pub returns-in_err-judge_sight : goal.returns-in_err-judge_sight
-returns-in_err-judge_sight c = rw (handed-on _ _ c.from_residual.ensures.1) (sight-judged c.args.words.now _ _ _ c.judge_sight.ensures c.in_err-judge_sight.was)
+returns-in_err-judge_sight c = rw (handed-on _ _ c.from_residual.ensures.1) (sight-judged c.args.words.now _ _ _ (c.judge_sight.ensures c.requires.examined) c.in_err-judge_sight.was)
 
 pub returns : goal.returns
 returns c = let w : (table_of c.args.words.now).next_doc ≤ none = omega (arith, c.shared_slice_known-1.given 1, next-doc-in c.args.words.now) in
-    let h = subst (Settles (sight_rungs c.args.words.now c.args.from.0)) c.in_ok-judge_sight.was c.judge_sight.ensures in
-    room-settles c.args.words.now _ _ _ c.judge_sight.ensures c.in_ok-judge_sight.was _
+    let h = subst (Settles (sight_rungs c.args.words.now c.args.from.0)) c.in_ok-judge_sight.was (c.judge_sight.ensures c.requires.examined) in
+    room-settles c.args.words.now _ _ _ (c.judge_sight.ensures c.requires.examined) c.in_ok-judge_sight.was _
     (c.is_full.ensures ∙ ap (full c.args.words.now) (sym (cleared-stands c.args.words.now c.args.from.0 (examined-sound c.args.words.now c.requires.examined) c.requires.alone w (sight-sees c.args.words.now c.args.from.0 h)))) _ c.judge_room.ensures

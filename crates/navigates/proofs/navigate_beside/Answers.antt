@@ -7,4 +7,4 @@ use Rattle.navigates.proofs.Judges.{sight-judged}
 use Rattle.navigates.proofs.navigate_beside.Goals as goal
 
 pub returns-in_err-judge_sight : goal.returns-in_err-judge_sight
-returns-in_err-judge_sight c = rw (handed-on _ _ c.from_residual.ensures.1) (judged-refused _ (Err _) (sight-judged c.args.words.now _ _ _ c.judge_sight.ensures c.in_err-judge_sight.was) _ refl)
+returns-in_err-judge_sight c = rw (handed-on _ _ c.from_residual.ensures.1) (judged-refused _ (Err _) (sight-judged c.args.words.now _ _ _ (c.judge_sight.ensures c.requires) c.in_err-judge_sight.was) _ refl)

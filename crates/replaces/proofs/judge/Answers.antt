@@ -7,8 +7,8 @@ use Rattle.replaces.proofs.judge.Goals as goal
 
 pub returns-in_err-judge_sight : goal.returns-in_err-judge_sight
 unfolding refusals
-returns-in_err-judge_sight c = rw (handed-on _ _ c.from_residual.ensures.1) (sight-refused c.args.words.now c.args.d.0 (number_rungs c.args.words.now) _ _ c.judge_sight.ensures c.in_err-judge_sight.was)
+returns-in_err-judge_sight c = rw (handed-on _ _ c.from_residual.ensures.1) (sight-refused c.args.words.now c.args.d.0 (number_rungs c.args.words.now) _ _ (c.judge_sight.ensures c.requires) c.in_err-judge_sight.was)
 
 pub returns : goal.returns
 unfolding refusals
-returns c = sight-fine c.args.words.now c.args.d.0 (number_rungs c.args.words.now) _ _ c.judge_sight.ensures c.in_ok-judge_sight.was _ c.judge_number.ensures
+returns c = sight-fine c.args.words.now c.args.d.0 (number_rungs c.args.words.now) _ _ (c.judge_sight.ensures c.requires) c.in_ok-judge_sight.was _ c.judge_number.ensures
