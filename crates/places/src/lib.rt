@@ -335,8 +335,13 @@ fn put_place(places: &mut [u64], i: usize, d: DocNo, place: Place)
 pub fn set_place(words: &[u32], places: &mut [u64], d: DocNo, place: Place) -> Result<(), Refusal>
     ensures { outcome (Call.SetPlace words.now places.old d.0 (place_given place)) ≡ record { answer = setting_is result; lent = places.new ∷ [] } }
 {
-    let i = judge_setting(words, places, d, place)?;
-    free_gone(words, places);
-    put_place(places, i, d, place);
-    Ok(())
+    // Not `?`: an edit that frees before it refuses is planted in the arm of the refusal.
+    match judge_setting(words, places, d, place) {
+        Err(r) => Err(r),
+        Ok(i) => {
+            free_gone(words, places);
+            put_place(places, i, d, place);
+            Ok(())
+        }
+    }
 }

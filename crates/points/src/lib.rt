@@ -7,8 +7,8 @@ ghost use Rattle.std.specs.Float.Ieee.{of_bits, to_bits};
 ghost use Rattle.rules.specs.Places.{finite, finite_place, scaled};
 ghost use Rattle.points.specs.Points.{place_given};
 
-// Whether a double is neither NaN nor infinite: a NaN is neither above nor below anything. The two comparisons raise no flag of the host's; `x.is_finite()`
-// takes the infinity from itself, which is an invalid operation, and a host that traps these would be ended.
+// Whether a double is neither NaN nor infinite: a NaN is neither above nor below anything. Of an infinity the two comparisons raise no flag of the host's;
+// `x.is_finite()` takes it from itself, which is an invalid operation, and a host that traps these would be ended.
 pub fn is_finite(x: f64) -> bool
     ensures { result ≡ finite x }
 {
